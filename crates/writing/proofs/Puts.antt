@@ -1,0 +1,82 @@
+-- Laws of `put`: one after the other, a single store, and the whole from the start. Assumes nothing.
+use mathlib.Core.Path.{_≡_, refl, sym, ap, _∙_}
+use mathlib.Core.List.{List, [], _∷_, _++_, append-assoc}
+use Prim.Native.Nat.{ℕ, _+_, _≤_, _<_}
+use native.Mathlib.Omega.{arith}
+use native.Mathlib.Numerals.{add-one}
+use lib.ListN.{length, take, drop, set, length-append, length-take, length-drop, take-append-drop}
+use lib.Seq.{set-split, take-at, drop-at, drop-drop, length-take-le}
+use borrow.Author.Tests.{le-leb, lt-leb}
+use Rattle.writing.specs.Writing.{put, Wrote, Placed}
+
+pub put-none : (old : List ℕ) (at : ℕ) → put old at [] ≡ old
+unfolding put
+put-none old at = let e : at + 0 ≡ at = omega arith in rw e (take-append-drop at old)
+
+pub length-put : (old : List ℕ) (at : ℕ) (xs : List ℕ) → at + length xs ≤ length old → length (put old at xs) ≡ length old
+unfolding put
+length-put old at xs l = simp (length-append, length-take, length-drop) (omega arith)
+
+-- one after the other
+pub put-put : (old : List ℕ) (at : ℕ) (xs ys : List ℕ) → at ≤ length old
+    → put (put old at xs) (at + length xs) ys ≡ put old at (xs ++ ys)
+unfolding put
+put-put old at xs ys l =
+    ap (λ (z : List ℕ). take m z ++ (ys ++ drop (m + length ys) z)) (sym (append-assoc (take at old) xs r))
+    ∙ ap (λ (z : List ℕ). z ++ (ys ++ drop (m + length ys) (p ++ r))) (take-at p r m size)
+    ∙ ap (λ (z : List ℕ). p ++ (ys ++ z))
+    (sym (drop-drop (length ys) m (p ++ r)) ∙ ap (drop (length ys)) (drop-at p r m size) ∙ drop-drop (length ys) m old)
+    ∙ append-assoc (take at old) xs (ys ++ drop (m + length ys) old)
+    ∙ ap (λ (z : List ℕ). take at old ++ z) (sym (append-assoc xs ys (drop (m + length ys) old)))
+    ∙ ap (λ (z : ℕ). take at old ++ (xs ++ ys ++ drop z old)) sum
+  where
+    m : ℕ
+    m = at + length xs
+
+    p : List ℕ
+    p = take at old ++ xs
+
+    r : List ℕ
+    r = drop m old
+
+    size : length p ≡ m
+    size = length-append (take at old) xs ∙ ap (λ (z : ℕ). z + length xs) (length-take-le at old l)
+
+    sum : m + length ys ≡ at + length (xs ++ ys)
+    sum = omega (arith, length-append xs ys)
+
+-- a single store
+put-set : (old : List ℕ) (at x : ℕ) → at < length old → set old at x ≡ put old at (x ∷ [])
+unfolding put
+put-set old at x l = rw add-one (set-split old at x l)
+
+-- a single store, and what is put after it
+pub put-store : (out : List ℕ) (at x : ℕ) (rest : List ℕ) → at < length out → put (set out at x) (at + 1) rest ≡ put out at (x ∷ rest)
+put-store out at x rest l =
+    ap (λ (z : List ℕ). put z (at + 1) rest) (put-set out at x l) ∙ put-put out at (x ∷ []) rest (omega arith)
+
+-- from the start: the bytes, and the rest of the buffer
+pub put-start : (old xs : List ℕ) → put old 0 xs ≡ xs ++ drop (length xs) old
+unfolding put
+put-start old xs = let e : 0 + length xs ≡ length xs = omega arith in rw e refl
+
+-- where there is room, what was placed was written
+module _ {old : List ℕ} {at : ℕ} {xs new : List ℕ} {to : ℕ} where
+  pub placed-wrote : Placed old at xs new to → at + length xs ≤ length old → Wrote old at xs new to
+  placed-wrote p l = record {
+    holds = rw (le-leb (at + length xs) (length old) l) at (p .holds);
+    end = rw (le-leb (at + length xs) (length old) l) at (p .end);
+  }
+
+  pub wrote-placed : Wrote old at xs new to → at + length xs ≤ length old → Placed old at xs new to
+  wrote-placed w l = record {
+    holds = rw (le-leb (at + length xs) (length old) l) (w .holds);
+    end = rw (le-leb (at + length xs) (length old) l) (w .end);
+  }
+
+-- where there is not, nothing is stored and the place stays
+pub no-room : {old : List ℕ} {at : ℕ} {xs : List ℕ} → length old < at + length xs → Placed old at xs old at
+no-room {old} {at} {xs} l = record {
+  holds = rw (lt-leb (at + length xs) (length old) l);
+  end = rw (lt-leb (at + length xs) (length old) l);
+}
