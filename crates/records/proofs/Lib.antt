@@ -1,3 +1,5 @@
 pub mod Shapes
 pub mod Standings
 pub mod Encodings
+pub mod RoundTrip
+pub mod Prefixes

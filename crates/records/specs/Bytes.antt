@@ -1,6 +1,8 @@
 -- The bytes of a record: its kind, its operands, and the angle where it has one.
-use Prim.Native.Nat.{ℕ, _-_}
+use Prim.Native.Nat.{ℕ, _-_, _/_}
+use mathlib.Core.Bool.{Bool, true}
 use mathlib.Core.List.{List, [], _∷_, _++_}
+use lib.Dec.{eqb}
 use lib.ListN.{length, replicate}
 use Rattle.records.specs.declared.numbers.Angle.{Angle}
 use Rattle.records.specs.declared.encoding.Encoded.{Encoded}
@@ -25,6 +27,18 @@ recordBytes (StaticWidth wires) = 0x01 ∷ wires ∷ []
 recordBytes (DynamicWidth qubits bits) = 0x02 ∷ qubits ∷ bits ∷ []
 recordBytes (Step i) = instructionBytes i
 recordBytes (Reuse lender taker) = 0x60 ∷ lender .0 ∷ taker .0 ∷ []
+
+-- a gate's kind is one of its form's sixteen
+abbrev pub kindFits : Record → Bool
+kindFits (Step (Gate k l)) = eqb (k / 16) 2
+kindFits (Step (AngledGate k l a)) = eqb (k / 16) 3
+kindFits (Step (TwoLineGate k l m)) = eqb (k / 16) 4
+kindFits (Step (AngledTwoLineGate k l m a)) = eqb (k / 16) 5
+kindFits (Step (Reset l)) = true
+kindFits (Step (Measurement l b)) = true
+kindFits (StaticWidth wires) = true
+kindFits (DynamicWidth qubits bits) = true
+kindFits (Reuse lender taker) = true
 
 -- the longest record: a kind, two lines and an angle
 abbrev pub longestRecord : ℕ
