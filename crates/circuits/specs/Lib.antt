@@ -1,0 +1,4 @@
+pub mod Limits
+pub mod Judging
+pub mod Stepping
+pub mod Reading
