@@ -1,1 +1,3 @@
 pub mod Indices
+pub mod Graph
+pub mod Runs
