@@ -1,3 +1,4 @@
 pub mod Indices
 pub mod Graph
 pub mod Runs
+pub mod Table

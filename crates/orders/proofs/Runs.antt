@@ -110,8 +110,8 @@ module _ (C : Circuit) (law : Lawful C) where
 
   -- ## One more pair
 
-  -- THEOREM: a pair of wires whose taker's reset does not lead to the lender's measurement runs with the others.
-  pub runs-more : (l t : ℕ) (ps : List Pair) → C .wire l ≡ true → C .wire t ≡ true → Runs C ps → ¬ Reach C ps (C .resetOf t) (C .measOf l) → Runs C ((l, t) ∷ ps)
+  -- a pair of wires whose taker's reset does not lead to the lender's measurement runs with the others
+  runs-more : (l t : ℕ) (ps : List Pair) → C .wire l ≡ true → C .wire t ≡ true → Runs C ps → ¬ Reach C ps (C .resetOf t) (C .measOf l) → Runs C ((l, t) ∷ ps)
   runs-more l t ps hl ht (σ, r) n = (
     q .leading ++ q .others,
     record {
@@ -139,12 +139,18 @@ module _ (C : Circuit) (law : Lawful C) where
             | inr w ↦ w
           ])
 
-  -- THEOREM: and only such a pair.
-  pub runs-only : (l t : ℕ) (ps : List Pair) → Runs C ((l, t) ∷ ps) → ¬ Reach C ps (C .resetOf t) (C .measOf l)
+  -- and only such a pair
+  runs-only : (l t : ℕ) (ps : List Pair) → Runs C ((l, t) ∷ ps) → ¬ Reach C ps (C .resetOf t) (C .measOf l)
   runs-only l t ps (σ, r) q =
       before-irrefl (C .measOf l) σ (r .order .once)
       (reach-before C ((l, t) ∷ ps) σ r (C .measOf l) (arrow-pair C ((l, t) ∷ ps) (l, t) _ _ (inl refl) refl refl)
       (leads-more (arrow-more C ps ((l, t) ∷ ps) (λ u v h. inr h)) q))
+
+  -- THEOREM: where the pairs run, they run with one more, between wires, exactly when its taker's reset does not lead to its lender's
+  -- measurement.
+  pub runs-added : (l t : ℕ) (ps : List Pair) → C .wire l ≡ true → C .wire t ≡ true → Runs C ps
+      → Runs C ((l, t) ∷ ps) ↔ (¬ Reach C ps (C .resetOf t) (C .measOf l))
+  runs-added l t ps hl ht r = (runs-only l t ps, runs-more l t ps hl ht r)
 
   -- ## Cycles
 

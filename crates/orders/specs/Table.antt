@@ -34,9 +34,13 @@ pub record State : Type 0 where
 abbrev pub fresh : Table → State
 fresh T = record { table = T; pairs = [] }
 
+-- the pair is accepted
+abbrev pub accepted : Pair → State → State
+accepted p s = record { table = accept p (s .table); pairs = p ∷ s .pairs }
+
 -- an offer is taken exactly when its mark is yes; one that is refused hands the same table back
 unfoldable pub offer : Pair → State → State
-offer p s = pick (s .table .mark (p .0) (p .1)) (record { table = accept p (s .table); pairs = p ∷ s .pairs }) s
+offer p s = pick (s .table .mark (p .0) (p .1)) (accepted p s) s
 
 -- one offer after the other
 unfoldable pub offers : List Pair → State → State

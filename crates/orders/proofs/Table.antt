@@ -1,0 +1,206 @@
+-- Demand 3: after any offers of any numbers, the table's marks say exactly which pairs can be added. What every accepted offer keeps is the
+-- same by the graph: a path with the new pair is an old path, or an old one to the lender's measurement and an old one from the taker's reset.
+-- Assumes nothing.
+use Prim.Native.Nat.{ℕ, _<_}
+use mathlib.Core.Path.{_≡_, refl, sym, ap, subst}
+use mathlib.Core.Logic.{_⊎_, inl, inr, _↔_, Iff·symm}
+use mathlib.Core.Bool.{Bool, true, false, not, _&&_, _||_}
+use mathlib.Core.List.{List, [], _∷_}
+use lib.Dec.{eqb}
+use borrow.Author.Tests.{eqb-true, eqb-false, eq-eqb, not-true}
+use Rattle.basics.proofs.Tests.{not-both, refuted, not-of-false, both, and-intro, either, or-left, or-right, neither, or-neither, true-or-false}
+use Rattle.orders.specs.Indices.{In}
+use Rattle.orders.specs.Runs.{Circuit, Lawful, Pair, Runs, Allowed, lendersOf, takersOf}
+use Rattle.orders.specs.Graph.{Reach}
+use Rattle.orders.specs.Table.{Table, State, Start, Says, Exact, ExactByReach, accept, accepted, fresh, offer, offers, Within}
+use Rattle.orders.proofs.Graph.{reach-added}
+use Rattle.orders.proofs.Runs.{runs-none, runs-added}
+
+-- ## The rule
+
+-- a mark that is left after a pair: in another row and another column, yes before, and yes at (l, v) or at (u, t)
+pub accept-mark : (l t : ℕ) (T : Table) (u v : ℕ)
+    → (accept (l, t) T .mark u v ≡ true) ↔ ((eqb u l ≡ false) × (eqb v t ≡ false) × (T .mark u v ≡ true) × ((T .mark l v || T .mark u t) ≡ true))
+unfolding accept
+accept-mark l t T u v = (
+  λ k.
+      let a = both (not (eqb u l)) (not (eqb v t) && (T .mark u v && (T .mark l v || T .mark u t))) k in
+      let b = both (not (eqb v t)) (T .mark u v && (T .mark l v || T .mark u t)) (a .1) in
+      let c = both (T .mark u v) (T .mark l v || T .mark u t) (b .1) in
+      (not-true (eqb u l) (a .0), not-true (eqb v t) (b .0), c .0, c .1),
+  λ p.
+      and-intro (not (eqb u l)) (not (eqb v t) && (T .mark u v && (T .mark l v || T .mark u t))) (not-of-false (eqb u l) (p .0))
+      (and-intro (not (eqb v t)) (T .mark u v && (T .mark l v || T .mark u t)) (not-of-false (eqb v t) (p .1))
+      (and-intro (T .mark u v) (T .mark l v || T .mark u t) (p .2) (p .3))),
+)
+
+pub offer-yes : (p : Pair) (s : State) → s .table .mark (p .0) (p .1) ≡ true → offer p s ≡ accepted p s
+unfolding offer
+offer-yes p s e = rw (offer, e)
+
+pub offer-no : (p : Pair) (s : State) → s .table .mark (p .0) (p .1) ≡ false → offer p s ≡ s
+unfolding offer
+offer-no p s e = rw (offer, e)
+
+-- what every accepted pair keeps, any offers keep
+pub offers-keep : (Inv : State → Type 0) → ((p : Pair) (s : State) → Inv s → s .table .mark (p .0) (p .1) ≡ true → Inv (accepted p s))
+    → (os : List Pair) (s : State) → Inv s → Inv (offers os s)
+unfolding offers
+offers-keep Inv keep [] s h = h
+offers-keep Inv keep (p ∷ os) s h =
+    offers-keep Inv keep os (offer p s) (elim (true-or-false (s .table .mark (p .0) (p .1))) [
+      | inl t ↦ subst Inv (sym (offer-yes p s t)) (keep p s h t)
+      | inr f ↦ subst Inv (sym (offer-no p s f)) h
+    ])
+
+-- what says the same of wires makes a table say the same
+says-alike : (C : Circuit) (T : Table) (ps : List Pair) (May May′ : ℕ → ℕ → Type 0)
+    → ((l t : ℕ) → C .wire l ≡ true → C .wire t ≡ true → May l t ↔ May′ l t) → Says C T ps May → Says C T ps May′
+says-alike C T ps May May′ alike h = record {
+  allowed = h .allowed;
+  marks = λ l t. (
+    (λ m. let r = h .marks l t .0 m in (r .0, r .1, r .2, r .3, alike l t (r .0) (r .1) .0 (r .4))),
+    λ q. h .marks l t .1 (q .0, q .1, q .2, q .3, alike l t (q .0) (q .1) .1 (q .4)),
+  );
+  lenders = h .lenders;
+  takers = h .takers;
+}
+
+module _ (C : Circuit) (law : Lawful C) where
+  -- ## What an accepted pair keeps
+
+  module _ (l t : ℕ) (T : Table) (ps : List Pair) (h : ExactByReach C T ps) (m : T .mark l t ≡ true) where
+    free : (C .wire l ≡ true) × (C .wire t ≡ true) × (T .lent l ≡ false) × (T .taken t ≡ false) × (¬ Reach C ps (C .resetOf t) (C .measOf l))
+    free = h .marks l t .0 m
+
+    accept-allowed : Allowed C ((l, t) ∷ ps)
+    accept-allowed = record {
+      between = λ u v k. elim k [
+        | inl e ↦ subst (λ (p : Pair). (C .wire (p .0) ≡ true) × (C .wire (p .1) ≡ true)) (sym e) (free .0, free .1)
+        | inr g ↦ h .allowed .between u v g
+      ];
+      lend-once = (λ k. not-both (T .lent l) (h .lenders l (free .0) .1 k) (free .2), h .allowed .lend-once);
+      take-once = (λ k. not-both (T .taken t) (h .takers t (free .1) .1 k) (free .3), h .allowed .take-once);
+      runs = runs-added C law l t ps (free .0) (free .1) (h .allowed .runs) .1 (free .4);
+    }
+
+    -- where (l, v) and (u, t) are both no, v's reset leads to l's measurement, or is used, and t's to u's
+    accept-marks : (u v : ℕ) → (accept (l, t) T .mark u v ≡ true)
+        ↔ ((C .wire u ≡ true) × (C .wire v ≡ true) × (accept (l, t) T .lent u ≡ false) × (accept (l, t) T .taken v ≡ false) × (¬ Reach C ((l, t) ∷ ps) (C .resetOf v) (C .measOf u)))
+    unfolding accept
+    accept-marks u v = (
+      λ k.
+          let p = accept-mark l t T u v .0 k in
+          let q = h .marks u v .0 (p .2) in (
+            q .0,
+            q .1,
+            or-neither (eqb u l) (T .lent u) (p .0) (q .2),
+            or-neither (eqb v t) (T .taken v) (p .1) (q .3),
+            λ r. elim (reach-added C l t ps (C .resetOf v) (C .measOf u) .0 r) [
+              | inl a ↦ q .4 a
+              | inr b ↦ elim (either (T .mark l v) (T .mark u t) (p .3)) [ inl c ↦ h .marks l v .0 c .4 (b .0) | inr d ↦ h .marks u t .0 d .4 (b .1) ]
+            ],
+          ),
+      λ q.
+          let a = neither (eqb u l) (T .lent u) (q .2) in
+          let b = neither (eqb v t) (T .taken v) (q .3) in
+          accept-mark l t T u v .1 (
+            a .0,
+            b .0,
+            h .marks u v .1 (q .0, q .1, a .1, b .1, λ r. q .4 (reach-added C l t ps (C .resetOf v) (C .measOf u) .1 (inl r))),
+            elim (true-or-false (T .mark l v || T .mark u t)) [
+              | inl y ↦ y
+              | inr f ↦ absurd (not-both (T .mark l v)
+                  (h .marks l v .1 (free .0, q .1, free .2, b .1, λ x. not-both (T .mark u t)
+                  (h .marks u t .1 (q .0, free .1, a .1, free .3, λ y. q .4 (reach-added C l t ps (C .resetOf v) (C .measOf u) .1 (inr (x, y)))))
+                  (neither (T .mark l v) (T .mark u t) f .1)))
+                  (neither (T .mark l v) (T .mark u t) f .0))
+            ],
+          ),
+    )
+
+    accept-says : ExactByReach C (accept (l, t) T) ((l, t) ∷ ps)
+    unfolding accept
+    accept-says = record {
+      allowed = accept-allowed;
+      marks = accept-marks;
+      lenders = λ x w. used (eqb-true x l) (eq-eqb x l) (h .lenders x w);
+      takers = λ x w. used (eqb-true x t) (eq-eqb x t) (h .takers x w);
+    }
+      where
+        -- a used mark is the new pair's or an old one
+        used : {A B : Type 0} {a b : Bool} → (a ≡ true → A) → (A → a ≡ true) → (b ≡ true) ↔ B → ((a || b) ≡ true) ↔ (A ⊎ B)
+        used {A} {B} {a} {b} to back old = (
+          λ k. elim (either a b k) [ inl e ↦ inl (to e) | inr g ↦ inr (old .0 g) ],
+          λ k. elim k [ inl e ↦ or-left a b (back e) | inr g ↦ or-right a b (old .1 g) ],
+        )
+
+  start-says : (T : Table) → Start C T → ExactByReach C T []
+  start-says T s = record {
+    allowed = record { between = λ l t h. absurd h; lend-once = tt; take-once = tt; runs = runs-none C law };
+    marks = λ l t. (
+      (λ m. let r = s .marks l t .0 m in (r .0, r .1, s .none-lent l (r .0), s .none-taken t (r .1), r .2)),
+      λ q. s .marks l t .1 (q .0, q .1, q .4),
+    );
+    lenders = λ x w. (λ k. not-both (T .lent x) k (s .none-lent x w), λ k. absurd k);
+    takers = λ x w. (λ k. not-both (T .taken x) k (s .none-taken x w), λ k. absurd k);
+  }
+
+  -- ## The theorem
+
+  -- the two forms of demand 3 are one
+  pub by-reach-exact : (T : Table) (ps : List Pair) → ExactByReach C T ps → Exact C T ps
+  by-reach-exact T ps h = says-alike C T ps _ _ (λ l t a b. Iff·symm (runs-added C law l t ps a b (h .allowed .runs))) h
+
+  pub exact-by-reach : (T : Table) (ps : List Pair) → Exact C T ps → ExactByReach C T ps
+  exact-by-reach T ps h = says-alike C T ps _ _ (λ l t a b. runs-added C law l t ps a b (h .allowed .runs)) h
+
+  -- an accepted pair leaves an exact table
+  pub accepted-exact : (p : Pair) (s : State) → Exact C (s .table) (s .pairs) → s .table .mark (p .0) (p .1) ≡ true
+      → Exact C (accepted p s .table) (accepted p s .pairs)
+  accepted-exact p s h m = by-reach-exact _ _ (accept-says (p .0) (p .1) (s .table) (s .pairs) (exact-by-reach _ _ h) m)
+
+  -- THEOREM: from an exact table, after any offers of any numbers at all, refused ones among them, the table is exact.
+  pub offers-exact : (os : List Pair) (s : State) → Exact C (s .table) (s .pairs) → Exact C (offers os s .table) (offers os s .pairs)
+  offers-exact = offers-keep (λ s. Exact C (s .table) (s .pairs)) accepted-exact
+
+  pub start-exact : (T : Table) → Start C T → Exact C T []
+  start-exact T s = by-reach-exact T [] (start-says T s)
+
+  -- THEOREM (demand 3): from the start table, after any offers, a mark is yes exactly between wires, where the lender has not lent, the taker
+  -- has not taken, and the accepted pairs run with this one added.
+  pub demand-three : (T : Table) → Start C T → (os : List Pair) → Exact C (offers os (fresh T) .table) (offers os (fresh T) .pairs)
+  demand-three T s os = offers-exact os (fresh T) (start-exact T s)
+
+  -- THEOREM: the same by the graph: where the taker's reset does not lead to the lender's measurement.
+  pub demand-three-by-reach : (T : Table) → Start C T → (os : List Pair) → ExactByReach C (offers os (fresh T) .table) (offers os (fresh T) .pairs)
+  demand-three-by-reach T s os = exact-by-reach _ _ (demand-three T s os)
+
+  -- ## What an exact table tells
+
+  -- a mark is yes exactly when the pair can be added to the list: Theorem 1's conditions hold with it
+  pub exact-allowed : (T : Table) (ps : List Pair) → Exact C T ps → (l t : ℕ) → (T .mark l t ≡ true) ↔ Allowed C ((l, t) ∷ ps)
+  exact-allowed T ps h l t = (
+    λ m. accept-allowed l t T ps (exact-by-reach T ps h) m,
+    λ a.
+        let w = a .between l t (inl refl) in
+        h .marks l t .1 (
+          w .0,
+          w .1,
+          refuted (T .lent l) (λ k. a .lend-once .0 (h .lenders l (w .0) .0 k)),
+          refuted (T .taken t) (λ k. a .take-once .0 (h .takers t (w .1) .0 k)),
+          a .runs,
+        ),
+  )
+
+  -- a no between wires that are not used is a loop: the pairs do not run with this one
+  pub exact-loop : (T : Table) (ps : List Pair) → Exact C T ps → (l t : ℕ) → C .wire l ≡ true → C .wire t ≡ true → T .lent l ≡ false → T .taken t ≡ false
+      → (T .mark l t ≡ false) ↔ (¬ Runs C ((l, t) ∷ ps))
+  exact-loop T ps h l t wl wt a b = (
+    λ m r. not-both (T .mark l t) (h .marks l t .1 (wl, wt, a, b, r)) m,
+    λ n. refuted (T .mark l t) (λ m. n (h .marks l t .0 m .4)),
+  )
+
+  -- marks are below the width
+  pub exact-within : (T : Table) (ps : List Pair) → Exact C T ps → Within (C .width) T
+  exact-within T ps h l t m = let r = h .marks l t .0 m in (law .low l (r .0), law .low t (r .1))
