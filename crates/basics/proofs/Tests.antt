@@ -1,11 +1,11 @@
 -- Laws of tests: what an "and", an "or" or a "not" that came out true or false says of its parts, and back.
 -- Every fact about a test is said as `b ≡ true` or `b ≡ false`. Assumes nothing.
-use Prim.Native.Nat.{ℕ}
+use Prim.Native.Nat.{ℕ, _≤_, _<_}
 use mathlib.Core.Path.{_≡_, refl, sym, _∙_}
 use mathlib.Core.Logic.{_⊎_, inl, inr, _≢_}
 use mathlib.Core.Bool.{Bool, true, false, not, _&&_, _||_, true≢false, false≢true}
-use lib.Dec.{eqb}
-use borrow.Author.Tests.{eqb-true, eqb-false}
+use lib.Dec.{eqb, ltb}
+use borrow.Author.Tests.{eqb-true, eqb-false, ltb-true, ltb-false}
 
 -- a test is not both
 pub not-both : (b : Bool) → b ≡ true → b ≡ false → ⊥
@@ -77,3 +77,11 @@ same-or-other a b = go (eqb a b) refl
     go : (t : Bool) → eqb a b ≡ t → (a ≡ b) ⊎ (a ≢ b)
     go true e = inl (eqb-true a b e)
     go false e = inr (eqb-false a b e)
+
+-- one number is below the other, or not
+pub below-or-not : (a b : ℕ) → (a < b) ⊎ (b ≤ a)
+below-or-not a b = go (ltb a b) refl
+  where
+    go : (t : Bool) → ltb a b ≡ t → (a < b) ⊎ (b ≤ a)
+    go true e = inl (ltb-true a b e)
+    go false e = inr (ltb-false a b e)

@@ -261,3 +261,8 @@ once-full n xs o h e i l = elim (in-or-out i xs) [
       omega (arith, b)
     )
 ]
+
+-- an order of n instructions has n
+pub order-length : (n : ℕ) (σ : List ℕ) → Order n σ → length σ ≡ n
+order-length n σ o =
+    omega (arith, once-below n σ (o .once) (o .only), once-fits (from 0 n) σ (from-once 0 n) (λ a k. o .all a (input-order n .only a k)), from-length 0 n)

@@ -2,3 +2,5 @@ pub mod Indices
 pub mod Graph
 pub mod Runs
 pub mod Table
+pub mod Least
+pub mod Schedule
