@@ -4,3 +4,4 @@ pub mod Runs
 pub mod Table
 pub mod Least
 pub mod Schedule
+pub mod Swaps

@@ -98,15 +98,15 @@ parted e m (x ∷ xs) o = go (parted e m xs (o .1))
 
 module _ (C : Circuit) (law : Lawful C) where
   -- with no pair, the input order is a run
+  pub input-run : Run C [] (inputOrder (C .size))
+  input-run = record {
+    order = input-order (C .size);
+    keeps = λ i j h. input-before (C .size) i j (law .upward i j h) (law .inside i j h);
+    honours = λ l t h. absurd h;
+  }
+
   pub runs-none : Runs C []
-  runs-none = (
-    inputOrder (C .size),
-    record {
-      order = input-order (C .size);
-      keeps = λ i j h. input-before (C .size) i j (law .upward i j h) (law .inside i j h);
-      honours = λ l t h. absurd h;
-    },
-  )
+  runs-none = (inputOrder (C .size), input-run)
 
   -- ## One more pair
 
