@@ -5,3 +5,5 @@ pub mod Table
 pub mod Least
 pub mod Schedule
 pub mod Swaps
+pub mod Pairs
+pub mod Rounds

@@ -6,7 +6,7 @@ use mathlib.Core.Option.{Option, none, some}
 use mathlib.Core.List.{List, [], _∷_}
 use Rattle.basics.specs.Choice.{pick}
 use Rattle.orders.specs.Indices.{from}
-use Rattle.orders.specs.Runs.{Pair}
+use Rattle.orders.specs.Runs.{Circuit, Pair, Allowed}
 use Rattle.orders.specs.Table.{Table, State, offer, Within}
 
 -- a rule of choice: from a table, a pair or none
@@ -26,6 +26,11 @@ rounds choose (suc k) s = elim (choose (s .table)) [ none ↦ s | some p ↦ rou
 -- no yes is left
 abbrev pub NoneLeft : Table → Type 0
 NoneLeft T = (l t : ℕ) → T .mark l t ≡ false
+
+-- the pairs are allowed, and no pair can be added to them
+pub record Maximal (C : Circuit) (ps : List Pair) : Type 0 where
+  pub allowed : Allowed C ps
+  pub no-more : (l t : ℕ) → ¬ Allowed C ((l, t) ∷ ps)
 
 -- the sum of f over a list
 unfoldable pub total : (ℕ → ℕ) → List ℕ → ℕ
