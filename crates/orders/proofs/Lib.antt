@@ -7,3 +7,4 @@ pub mod Schedule
 pub mod Swaps
 pub mod Pairs
 pub mod Rounds
+pub mod Examples

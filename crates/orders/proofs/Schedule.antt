@@ -14,7 +14,7 @@ use Rattle.orders.specs.Indices.{In, Before, Once, Order, every, stands,
 use Rattle.orders.specs.Runs.{Circuit, Lawful, Pair, Run, Runs, BetweenWires, SamePairs}
 use Rattle.orders.specs.Graph.{arrow, Reach}
 use Rattle.orders.specs.Table.{Start}
-use Rattle.orders.specs.Schedule.{earlierWritten, lenderWritten, ready, next, goOn, schedule, complete, startTable}
+use Rattle.orders.specs.Schedule.{earlierWritten, lenderWritten, ready, next, writeOn, schedule, complete, startTable}
 use Rattle.orders.proofs.Indices.{First, first-or-none, before-left, before-right, before-across, put-last, put-in, put-there, in-put, put-before, put-once, every-at, every-from, stands-in, in-stands, from-in, in-from, from-last, input-order, order-length, once-full}
 use Rattle.orders.proofs.Least.{least-miss, least-hit, least-end, least-is}
 use Rattle.orders.proofs.Graph.{arrow-prec, arrow-pair, arrow-cases, run-arrow, arrow-run}
@@ -80,17 +80,17 @@ module _ (may : List ℕ → ℕ → Bool) (n : ℕ) (done : List ℕ) where
   unfolding next
   next-is j l below t = least-is (may done) n j l below t
 
-  pub goOn-more : (f : ℕ) → next may n done < n → goOn may n (suc f) done ≡ goOn may n f (done ++ next may n done ∷ [])
-  unfolding goOn
-  goOn-more f l = rw (goOn, lt-ltb (next may n done) n l)
+  pub writeOn-more : (f : ℕ) → next may n done < n → writeOn may n (suc f) done ≡ writeOn may n f (done ++ next may n done ∷ [])
+  unfolding writeOn
+  writeOn-more f l = rw (writeOn, lt-ltb (next may n done) n l)
 
-  pub goOn-stuck : (f : ℕ) → n ≤ next may n done → goOn may n (suc f) done ≡ done
-  unfolding goOn
-  goOn-stuck f l = rw (goOn, le-ltb (next may n done) n l)
+  pub writeOn-stuck : (f : ℕ) → n ≤ next may n done → writeOn may n (suc f) done ≡ done
+  unfolding writeOn
+  writeOn-stuck f l = rw (writeOn, le-ltb (next may n done) n l)
 
-  pub goOn-end : goOn may n 0 done ≡ done
-  unfolding goOn
-  goOn-end = refl
+  pub writeOn-end : writeOn may n 0 done ≡ done
+  unfolding writeOn
+  writeOn-end = refl
 
 -- ## What is written keeps every arrow
 
@@ -117,19 +117,19 @@ module _ (C : Circuit) (law : Lawful C) (ps : List Pair) where
       free : (¬ In j done) × ((i : ℕ) → arrow C ps i j ≡ true → In i done)
       free = ready-exactly C law ps done j .0 r
 
-  goOn-written : (f : ℕ) (done : List ℕ) → Written C ps done → Written C ps (goOn (ready C ps) (C .size) f done)
-  goOn-written zero done w = rw (goOn-end (ready C ps) (C .size) done) w
-  goOn-written (suc f) done w = elim (below-or-not (next (ready C ps) (C .size) done) (C .size)) [
+  writeOn-written : (f : ℕ) (done : List ℕ) → Written C ps done → Written C ps (writeOn (ready C ps) (C .size) f done)
+  writeOn-written zero done w = rw (writeOn-end (ready C ps) (C .size) done) w
+  writeOn-written (suc f) done w = elim (below-or-not (next (ready C ps) (C .size) done) (C .size)) [
     | inl l ↦
-        rw (goOn-more (ready C ps) (C .size) done f l)
-        (goOn-written f (done ++ next (ready C ps) (C .size) done ∷ []) (written-more done _ w l (next-may (ready C ps) (C .size) done l)))
-    | inr e ↦ rw (goOn-stuck (ready C ps) (C .size) done f e) w
+        rw (writeOn-more (ready C ps) (C .size) done f l)
+        (writeOn-written f (done ++ next (ready C ps) (C .size) done ∷ []) (written-more done _ w l (next-may (ready C ps) (C .size) done l)))
+    | inr e ↦ rw (writeOn-stuck (ready C ps) (C .size) done f e) w
   ]
 
   -- whatever the pairs, what is written is in order
   pub schedule-written : Written C ps (schedule C ps)
   unfolding schedule
-  schedule-written = goOn-written (C .size) [] (written-none C ps)
+  schedule-written = writeOn-written (C .size) [] (written-none C ps)
 
   -- ## It is complete where the pairs run
 
@@ -149,17 +149,17 @@ module _ (C : Circuit) (law : Lawful C) (ps : List Pair) where
       | inr none ↦ inr (λ i l. stands-in i done (not-false _ (none i (r .order .all i l))))
     ]
 
-    goOn-all : (f : ℕ) (done : List ℕ) → Written C ps done → length done + f ≡ C .size
-        → (i : ℕ) → i < C .size → In i (goOn (ready C ps) (C .size) f done)
-    goOn-all zero done w e i l = rw (goOn-end (ready C ps) (C .size) done) (once-full (C .size) done (w .once) (w .below) (omega arith) i l)
-    goOn-all (suc f) done w e i l = elim (progress done) [
+    writeOn-all : (f : ℕ) (done : List ℕ) → Written C ps done → length done + f ≡ C .size
+        → (i : ℕ) → i < C .size → In i (writeOn (ready C ps) (C .size) f done)
+    writeOn-all zero done w e i l = rw (writeOn-end (ready C ps) (C .size) done) (once-full (C .size) done (w .once) (w .below) (omega arith) i l)
+    writeOn-all (suc f) done w e i l = elim (progress done) [
       | inl k ↦
           let j = next (ready C ps) (C .size) done in
-          rw (goOn-more (ready C ps) (C .size) done f k)
-          (goOn-all f (done ++ j ∷ []) (written-more done j w k (next-may (ready C ps) (C .size) done k)) (omega (arith, length-append done (j ∷ []))) i l)
+          rw (writeOn-more (ready C ps) (C .size) done f k)
+          (writeOn-all f (done ++ j ∷ []) (written-more done j w k (next-may (ready C ps) (C .size) done k)) (omega (arith, length-append done (j ∷ []))) i l)
       | inr all ↦ elim (below-or-not (next (ready C ps) (C .size) done) (C .size)) [
         | inl k ↦ absurd (ready-exactly C law ps done _ .0 (next-may (ready C ps) (C .size) done k) .0 (all _ k))
-        | inr s ↦ rw (goOn-stuck (ready C ps) (C .size) done f s) (all i l)
+        | inr s ↦ rw (writeOn-stuck (ready C ps) (C .size) done f s) (all i l)
       ]
     ]
 
@@ -175,7 +175,7 @@ module _ (C : Circuit) (law : Lawful C) (ps : List Pair) where
   schedule-runs (σ, r) =
       full-run
       (λ i j a. r .order .only j (before-right i j σ (run-arrow C ps σ r i j a)))
-      (goOn-all σ r (C .size) [] (written-none C ps) (omega arith))
+      (writeOn-all σ r (C .size) [] (written-none C ps) (omega arith))
 
   -- THEOREM: for pairs between wires it has every instruction exactly when they run.
   pub schedule-complete : BetweenWires C ps → (length (schedule C ps) ≡ C .size) ↔ Runs C ps
@@ -213,19 +213,19 @@ module _ (C : Circuit) (law : Lawful C) where
         ],
       ))
 
-  goOn-input : (f k : ℕ) → k + f ≡ C .size → goOn (ready C []) (C .size) f (from 0 k) ≡ from 0 (C .size)
-  goOn-input zero k e = let q : k ≡ C .size = omega arith in goOn-end (ready C []) (C .size) (from 0 k) ∙ ap (from 0) q
-  goOn-input (suc f) k e =
+  writeOn-input : (f k : ℕ) → k + f ≡ C .size → writeOn (ready C []) (C .size) f (from 0 k) ≡ from 0 (C .size)
+  writeOn-input zero k e = let q : k ≡ C .size = omega arith in writeOn-end (ready C []) (C .size) (from 0 k) ∙ ap (from 0) q
+  writeOn-input (suc f) k e =
       let l : k < C .size = omega arith in
       let q : next (ready C []) (C .size) (from 0 k) ≡ 0 + k = omega (arith, next-input k l) in
-      goOn-more (ready C []) (C .size) (from 0 k) f (omega arith)
-      ∙ ap (goOn (ready C []) (C .size) f) (ap (λ z. from 0 k ++ z ∷ []) q ∙ from-last 0 k)
-      ∙ goOn-input f (suc k) (omega arith)
+      writeOn-more (ready C []) (C .size) (from 0 k) f (omega arith)
+      ∙ ap (writeOn (ready C []) (C .size) f) (ap (λ z. from 0 k ++ z ∷ []) q ∙ from-last 0 k)
+      ∙ writeOn-input f (suc k) (omega arith)
 
   -- THEOREM: with no pairs the schedule is the input order.
   pub schedule-none : schedule C [] ≡ inputOrder (C .size)
   unfolding schedule from
-  schedule-none = goOn-input (C .size) 0 (omega arith)
+  schedule-none = writeOn-input (C .size) 0 (omega arith)
 
 -- ## The pairs as a set
 
@@ -236,7 +236,7 @@ lender-fewer C ps qs done j sub h = lender-written C qs done j .1 (λ p k. lende
 -- THEOREM: the schedule depends on the pairs as a set only.
 pub schedule-same : (C : Circuit) (ps qs : List Pair) → SamePairs ps qs → schedule C ps ≡ schedule C qs
 unfolding schedule ready
-schedule-same C ps qs same = ap (λ may. goOn may (C .size) (C .size) []) (fun-ext (λ done. fun-ext (λ j.
+schedule-same C ps qs same = ap (λ may. writeOn may (C .size) (C .size) []) (fun-ext (λ done. fun-ext (λ j.
     ap (λ b. not (stands j done) && (earlierWritten C done j && b))
     (same-test (lenderWritten C ps done j) (lenderWritten C qs done j)
     (lender-fewer C ps qs done j (λ l t. same l t .1))

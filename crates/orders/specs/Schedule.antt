@@ -30,13 +30,13 @@ unfoldable pub next : (List ℕ → ℕ → Bool) → ℕ → List ℕ → ℕ
 next may n done = least (may done) n 0
 
 -- `done`, and after it what comes next, at most `fuel` times
-unfoldable pub goOn : (List ℕ → ℕ → Bool) → ℕ → ℕ → List ℕ → List ℕ
-goOn may n zero done = done
-goOn may n (suc fuel) done = elim (ltb (next may n done) n) [ true ↦ goOn may n fuel (done ++ next may n done ∷ []) | false ↦ done ]
+unfoldable pub writeOn : (List ℕ → ℕ → Bool) → ℕ → ℕ → List ℕ → List ℕ
+writeOn may n zero done = done
+writeOn may n (suc fuel) done = elim (ltb (next may n done) n) [ true ↦ writeOn may n fuel (done ++ next may n done ∷ []) | false ↦ done ]
 
 -- the order of writing; it stops early where nothing is ready
 unfoldable pub schedule : Circuit → List Pair → List ℕ
-schedule C ps = goOn (ready C ps) (C .size) (C .size) []
+schedule C ps = writeOn (ready C ps) (C .size) (C .size) []
 
 -- whether the schedule has every instruction
 unfoldable pub complete : Circuit → List Pair → Bool
