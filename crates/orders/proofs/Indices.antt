@@ -245,7 +245,7 @@ once-fits [] ys o h = omega arith
 once-fits (x ∷ xs) ys o h =
     let r = put-out x ys (h x (inl refl)) in
     let rest : ((a : ℕ) → In a xs → In a (r .0)) =
-        λ a k. elim (in-put (r .1) a (h a (inr k))) [ inl e ↦ absurd (o .0 (subst (λ z. In z xs) e k)) | inr m ↦ m ] in
+    λ a k. elim (in-put (r .1) a (h a (inr k))) [ inl e ↦ absurd (o .0 (subst (λ z. In z xs) e k)) | inr m ↦ m ] in
     omega (arith, once-fits xs (r .0) (o .1) rest, put-length (r .1))
 
 -- different numbers below n are at most n
@@ -259,7 +259,7 @@ once-full n xs o h e i l = elim (in-or-out i xs) [
   | inr m ↦ absurd (
       let b = once-below n (i ∷ xs) (m, o) (λ a k. elim k [ inl q ↦ subst (λ z. z < n) (sym q) l | inr w ↦ h a w ]) in
       omega (arith, b)
-    )
+      )
 ]
 
 -- an order of n instructions has n

@@ -37,18 +37,18 @@ module _ (C : Circuit) (law : Lawful C) where
   unfolding lenderAt
   head-lender p ps wires σ r = elim (first-or-none (lenderAt (p ∷ ps)) σ (r .order .once)) [
     | inl f ↦ (
-      let q = any-which (λ (p : Pair). eqb (f .at) (C .measOf (p .0))) (p ∷ ps) (f .passes) in
-      let x = q .0 .0 in
-      let w = wires x (q .0 .1) (q .1) .0 in (
-        x,
-        w,
-        λ h.
-            let g = taker-lender x (p ∷ ps) h in
-            let b = before-trans (C .measOf (g .0)) (C .resetOf x) (C .measOf x) σ (r .order .once) (r .honours (g .0) x (g .1)) (r .keeps _ _ (law .spans x w)) in
-            not-both (lenderAt (p ∷ ps) (C .measOf (g .0))) (lender-at (p ∷ ps) (g .0, x) (g .1))
-            (f .before _ (subst (λ z. Before (C .measOf (g .0)) z σ) (sym (eqb-true _ _ (q .2))) b)),
-      )
-    )
+        let q = any-which (λ (p : Pair). eqb (f .at) (C .measOf (p .0))) (p ∷ ps) (f .passes) in
+        let x = q .0 .0 in
+        let w = wires x (q .0 .1) (q .1) .0 in (
+          x,
+          w,
+          λ h.
+              let g = taker-lender x (p ∷ ps) h in
+              let b = before-trans (C .measOf (g .0)) (C .resetOf x) (C .measOf x) σ (r .order .once) (r .honours (g .0) x (g .1)) (r .keeps _ _ (law .spans x w)) in
+              not-both (lenderAt (p ∷ ps) (C .measOf (g .0))) (lender-at (p ∷ ps) (g .0, x) (g .1))
+              (f .before _ (subst (λ z. Before (C .measOf (g .0)) z σ) (sym (eqb-true _ _ (q .2))) b)),
+        )
+        )
     | inr none ↦ absurd (not-both _ (lender-at (p ∷ ps) p (inl refl)) (none _ (before-left _ _ σ (r .honours (p .0) (p .1) (inl refl)))))
   ]
 

@@ -67,9 +67,9 @@ module _ (w : ℕ) (choose : Chooser) (rule : Chooses w choose) (Inv : State →
   rounds-settled (suc k) (suc more) s h b le = elim (chosen s h) [
     | inl c ↦ rounds-none (suc more) s (c .0) ∙ sym (rounds-none (suc k) s (c .0))
     | inr (p, e, m) ↦ (
-      let f = falls p s h m in
-      rounds-some more s p e m ∙ rounds-settled k more (accepted p s) (f .0) (omega arith) (omega arith) ∙ sym (rounds-some k s p e m)
-    )
+        let f = falls p s h m in
+        rounds-some more s p e m ∙ rounds-settled k more (accepted p s) (f .0) (omega arith) (omega arith) ∙ sym (rounds-some k s p e m)
+        )
   ]
 
 -- ## The yes marks fall

@@ -111,9 +111,15 @@ module _ (C : Circuit) (law : Lawful C) where
             elim (true-or-false (T .mark l v || T .mark u t)) [
               | inl y ↦ y
               | inr f ↦ absurd (not-both (T .mark l v)
-                  (h .marks l v .1 (free .0, q .1, free .2, b .1, λ x. not-both (T .mark u t)
-                  (h .marks u t .1 (q .0, free .1, a .1, free .3, λ y. q .4 (reach-added C l t ps (C .resetOf v) (C .measOf u) .1 (inr (x, y)))))
-                  (neither (T .mark l v) (T .mark u t) f .1)))
+                  (h .marks l v .1 (
+                    free .0,
+                    q .1,
+                    free .2,
+                    b .1,
+                    λ x. not-both (T .mark u t)
+                        (h .marks u t .1 (q .0, free .1, a .1, free .3, λ y. q .4 (reach-added C l t ps (C .resetOf v) (C .measOf u) .1 (inr (x, y)))))
+                        (neither (T .mark l v) (T .mark u t) f .1),
+                  ))
                   (neither (T .mark l v) (T .mark u t) f .0))
             ],
           ),
