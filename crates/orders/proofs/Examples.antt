@@ -1,19 +1,19 @@
 -- The circuits A, B and P11 of document 01 as precedences, at which each theorem says something: what runs and what does not, the marks after
 -- offers, the order of writing, its swaps, and a chooser's list. Assumes nothing.
-use Prim.Native.Nat.{ℕ, zero, suc, _+_, _-_, _≤_, _<_}
+use Prim.Native.Nat.{ℕ, _+_, _-_, _≤_, _<_}
 use mathlib.Core.Path.{_≡_, refl, sym, _∙_, ap, subst}
-use mathlib.Core.Logic.{_⊎_, inl, inr, _↔_}
-use mathlib.Core.Bool.{Bool, true, false, not, _&&_, _||_}
+use mathlib.Core.Logic.{_⊎_, inl, inr}
+use mathlib.Core.Bool.{Bool, true, false, _&&_}
 use mathlib.Core.Option.{Option, none, some}
-use mathlib.Core.List.{List, [], _∷_, _++_}
+use mathlib.Core.List.{List, [], _∷_}
 use native.Mathlib.Omega.{arith}
 use lib.ListN.{length, getD}
-use lib.Dec.{eqb, ltb}
-use borrow.Author.Tests.{eq-eqb, ltb-true, ltb-false, lt-ltb, le-ltb}
+use lib.Dec.{ltb}
+use borrow.Author.Tests.{ltb-true, ltb-false, lt-ltb, le-ltb}
 use Rattle.basics.specs.Choice.{pick}
-use Rattle.basics.proofs.Tests.{true-or-false, not-both, refuted, both, and-intro, same-or-other, below-or-not}
-use Rattle.orders.specs.Indices.{In, any, every, stands, from, inputOrder}
-use Rattle.orders.specs.Runs.{Circuit, Lawful, Pair, Run, Runs, BetweenWires, Allowed, SamePairs}
+use Rattle.basics.proofs.Tests.{true-or-false, not-both, refuted, both, and-intro, below-or-not}
+use Rattle.orders.specs.Indices.{any, every, stands, from, inputOrder}
+use Rattle.orders.specs.Runs.{Circuit, Lawful, Pair, Runs, BetweenWires, Allowed, SamePairs}
 use Rattle.orders.specs.Graph.{lends, arrow, here, step, Reach, Cycle, Acyclic}
 use Rattle.orders.specs.Table.{Table, State, Exact, ExactByReach, Within, accept, accepted, fresh, offer, offers}
 use Rattle.orders.specs.Schedule.{earlierWritten, lenderWritten, ready, least, next, writeOn, schedule, complete, startTable}
@@ -24,9 +24,9 @@ use Rattle.orders.proofs.Runs.{runs-exactly-acyclic, runs-added, runs-d
 use Rattle.orders.proofs.Table.{demand-three, demand-three-by-reach, exact-loop}
 use Rattle.orders.proofs.Least.{least-hit, least-miss}
 use Rattle.orders.proofs.Schedule.{schedule-runs, schedule-complete, complete-exactly, schedule-none, schedule-same, start-table}
-use Rattle.orders.proofs.Swaps.{swaps-exactly, run-reached, effect-kept}
+use Rattle.orders.proofs.Swaps.{run-reached, effect-kept}
 use Rattle.orders.proofs.Pairs.{allowed-few}
-use Rattle.orders.proofs.Rounds.{rounds-end, rounds-grown, chosen-maximal}
+use Rattle.orders.proofs.Rounds.{rounds-end, chosen-maximal}
 
 -- ## Circuits as the worked ones are laid out: a reset of each wire in turn, gates on two wires, a measurement of each wire in turn
 
@@ -198,7 +198,7 @@ alone-P11 = complete-exactly P11 lawful-P11 ((3, 1) ∷ []) (between P11 ((3, 1)
 
 -- of any numbers that are offered, those that can be are taken
 some-offers : List Pair
-some-offers = (9, 1) ∷ (2, 2) ∷ (0, 2) ∷ (3, 1) ∷ (0, 3) ∷ (1, 3) ∷ []
+some-offers = (9, 1) ∷ (2, 2) ∷ (0, 2) ∷ (3, 1) ∷ (0, 3) ∷ (1, 2) ∷ (1, 3) ∷ []
 
 taken-P11 : offers some-offers (fresh (startTable P11)) .pairs ≡ (1, 3) ∷ (0, 2) ∷ []
 unfolding some-offers offers offer accept startTable complete schedule writeOn next least ready earlierWritten lenderWritten every stands any from P11 worked wiresOf

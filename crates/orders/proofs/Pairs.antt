@@ -1,7 +1,7 @@
 -- Allowed pairs are fewer than the wires: the lender whose measurement comes first in a run takes from nobody. Assumes nothing.
 use Prim.Native.Nat.{ℕ, suc, _-_, _≤_, _<_}
 use mathlib.Core.Path.{_≡_, refl, sym, ap, subst}
-use mathlib.Core.Logic.{_⊎_, inl, inr}
+use mathlib.Core.Logic.{inl, inr}
 use mathlib.Core.Bool.{Bool, true}
 use mathlib.Core.List.{List, [], _∷_}
 use native.Mathlib.Omega.{arith}
@@ -11,7 +11,7 @@ use borrow.Author.Tests.{eqb-true, eq-eqb}
 use Rattle.basics.proofs.Tests.{not-both}
 use Rattle.orders.specs.Indices.{In, Before, any}
 use Rattle.orders.specs.Runs.{Circuit, Lawful, Pair, Run, BetweenWires, Allowed, takersOf}
-use Rattle.orders.proofs.Indices.{First, first-or-none, before-trans, before-left, any-in, any-which, once-below}
+use Rattle.orders.proofs.Indices.{first-or-none, before-trans, before-left, any-in, any-which, once-below}
 
 taker-lender : (t : ℕ) (ps : List Pair) → In t (takersOf ps) → (l : ℕ) × In (l, t) ps
 taker-lender t [] h = absurd h

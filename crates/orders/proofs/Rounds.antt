@@ -1,9 +1,9 @@
 -- Rounds over any rule of choice end: on any table, since each accepted pair strikes a yes and makes none; on a table grown from a circuit
 -- after at most width - 1 rounds, since allowed pairs are fewer than the wires, and then no pair can be added. Assumes nothing.
-use Prim.Native.Nat.{ℕ, zero, suc, _+_, _-_, _≤_, _<_}
+use Prim.Native.Nat.{ℕ, zero, suc, _-_, _≤_, _<_}
 use mathlib.Core.Path.{_≡_, refl, sym, _∙_, ap, subst}
 use mathlib.Core.Logic.{_⊎_, inl, inr}
-use mathlib.Core.Bool.{Bool, true, false, _||_}
+use mathlib.Core.Bool.{Bool, true, false}
 use mathlib.Core.Option.{Option, none, some}
 use mathlib.Core.List.{List, [], _∷_}
 use native.Mathlib.Omega.{arith}
@@ -13,8 +13,8 @@ use borrow.Author.Tests.{eq-eqb}
 use Rattle.basics.specs.Choice.{pick}
 use Rattle.basics.proofs.Tests.{not-both, refuted}
 use Rattle.orders.specs.Indices.{In, from}
-use Rattle.orders.specs.Runs.{Circuit, Lawful, Pair, Allowed}
-use Rattle.orders.specs.Table.{Table, State, Start, Exact, Within, accept, accepted, fresh, offer}
+use Rattle.orders.specs.Runs.{Circuit, Lawful, Pair}
+use Rattle.orders.specs.Table.{Table, State, Start, Exact, Within, accept, accepted, fresh}
 use Rattle.orders.specs.Rounds.{Chooser, Chooses, rounds, NoneLeft, Maximal, total, rowCount, yesCount}
 use Rattle.orders.proofs.Indices.{from-in}
 use Rattle.orders.proofs.Table.{accept-mark, offer-yes, accepted-exact, start-exact, exact-allowed, exact-within}

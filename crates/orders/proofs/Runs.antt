@@ -1,18 +1,18 @@
 -- Which pairs can run. One more pair runs with the others exactly when its taker's reset does not lead to its lender's measurement: of a run
 -- without it, put first what leads to that measurement. So pairs run exactly when the graph has no cycle. Assumes nothing.
-use Prim.Native.Nat.{ℕ, _<_}
-use mathlib.Core.Path.{_≡_, refl, sym, _∙_, subst}
+use Prim.Native.Nat.{ℕ}
+use mathlib.Core.Path.{_≡_, refl, sym, subst}
 use mathlib.Core.Logic.{_⊎_, inl, inr, _↔_}
-use mathlib.Core.Bool.{Bool, true, false, _||_}
+use mathlib.Core.Bool.{Bool, true, _||_}
 use mathlib.Core.List.{List, [], _∷_, _++_}
 use lib.Dec.{eqb}
 use borrow.Author.Tests.{eqb-true, eq-eqb}
 use Rattle.basics.proofs.Tests.{true-or-false, not-both, either, neither}
-use Rattle.orders.specs.Indices.{In, Before, Once, Order, any, inputOrder}
+use Rattle.orders.specs.Indices.{In, Before, Once, any, inputOrder}
 use Rattle.orders.specs.Runs.{Circuit, Lawful, Pair, Run, Runs, BetweenWires, SamePairs}
-use Rattle.orders.specs.Graph.{arrow, Leads, here, step, Reach, Cycle, Acyclic}
-use Rattle.orders.proofs.Indices.{before-trans, before-irrefl, in-left, in-right, before-right-part, before-across, put-between, in-put, put-before, put-once, any-in, any-which, input-order, input-before}
-use Rattle.orders.proofs.Graph.{leads-more, arrow-prec, arrow-pair, arrow-more, run-arrow, reach-before}
+use Rattle.orders.specs.Graph.{arrow, Leads, here, step, Clear, Acyclic}
+use Rattle.orders.proofs.Indices.{before-irrefl, in-left, in-right, before-right-part, before-across, put-between, in-put, put-before, put-once, any-in, any-which, input-order, input-before}
+use Rattle.orders.proofs.Graph.{leads-more, arrow-prec, arrow-pair, arrow-more, reach-before}
 
 -- ## Fewer pairs
 
@@ -111,7 +111,7 @@ module _ (C : Circuit) (law : Lawful C) where
   -- ## One more pair
 
   -- a pair of wires whose taker's reset does not lead to the lender's measurement runs with the others
-  runs-more : (l t : ℕ) (ps : List Pair) → C .wire l ≡ true → C .wire t ≡ true → Runs C ps → ¬ Reach C ps (C .resetOf t) (C .measOf l) → Runs C ((l, t) ∷ ps)
+  runs-more : (l t : ℕ) (ps : List Pair) → C .wire l ≡ true → C .wire t ≡ true → Runs C ps → Clear C ps l t → Runs C ((l, t) ∷ ps)
   runs-more l t ps hl ht (σ, r) n = (
     q .leading ++ q .others,
     record {
@@ -140,7 +140,7 @@ module _ (C : Circuit) (law : Lawful C) where
           ])
 
   -- and only such a pair
-  runs-only : (l t : ℕ) (ps : List Pair) → Runs C ((l, t) ∷ ps) → ¬ Reach C ps (C .resetOf t) (C .measOf l)
+  runs-only : (l t : ℕ) (ps : List Pair) → Runs C ((l, t) ∷ ps) → Clear C ps l t
   runs-only l t ps (σ, r) q =
       before-irrefl (C .measOf l) σ (r .order .once)
       (reach-before C ((l, t) ∷ ps) σ r (C .measOf l) (arrow-pair C ((l, t) ∷ ps) (l, t) _ _ (inl refl) refl refl)
@@ -149,8 +149,12 @@ module _ (C : Circuit) (law : Lawful C) where
   -- THEOREM: where the pairs run, they run with one more, between wires, exactly when its taker's reset does not lead to its lender's
   -- measurement.
   pub runs-added : (l t : ℕ) (ps : List Pair) → C .wire l ≡ true → C .wire t ≡ true → Runs C ps
-      → Runs C ((l, t) ∷ ps) ↔ (¬ Reach C ps (C .resetOf t) (C .measOf l))
+      → Runs C ((l, t) ∷ ps) ↔ Clear C ps l t
   runs-added l t ps hl ht r = (runs-only l t ps, runs-more l t ps hl ht r)
+
+  -- a wire with itself closes a loop: its reset comes before its measurement
+  pub runs-self : (x : ℕ) (ps : List Pair) → C .wire x ≡ true → ¬ Runs C ((x, x) ∷ ps)
+  runs-self x ps w r = runs-only x x ps r (step (arrow-prec C ps _ _ (law .spans x w)) (here refl))
 
   -- ## Cycles
 

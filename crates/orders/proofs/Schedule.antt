@@ -7,15 +7,15 @@ use mathlib.Core.Bool.{Bool, true, false, not, _&&_, _||_}
 use mathlib.Core.List.{List, [], _∷_, _++_}
 use native.Mathlib.Omega.{arith}
 use lib.ListN.{length, length-append}
-use lib.Dec.{eqb, ltb}
+use lib.Dec.{eqb}
 use borrow.Author.Tests.{eqb-true, eq-eqb, lt-ltb, le-ltb, not-true, not-false}
-use Rattle.basics.proofs.Tests.{true-or-false, not-both, refuted, not-of-false, same-test, both, and-intro, implied, implies, below-or-not}
-use Rattle.orders.specs.Indices.{In, Before, Once, Order, every, stands, from, inputOrder}
+use Rattle.basics.proofs.Tests.{not-both, refuted, not-of-false, same-test, both, and-intro, implied, implies, below-or-not}
+use Rattle.orders.specs.Indices.{In, Before, Once, stands, from, inputOrder}
 use Rattle.orders.specs.Runs.{Circuit, Lawful, Pair, Run, Runs, BetweenWires, SamePairs}
-use Rattle.orders.specs.Graph.{arrow, Reach}
+use Rattle.orders.specs.Graph.{arrow, Clear}
 use Rattle.orders.specs.Table.{Start}
 use Rattle.orders.specs.Schedule.{earlierWritten, lenderWritten, ready, next, writeOn, schedule, complete, startTable}
-use Rattle.orders.proofs.Indices.{First, first-or-none, before-left, before-right, before-across, put-last, put-in, put-there, in-put, put-before, put-once, every-at, every-from, stands-in, in-stands, from-in, in-from, from-last, input-order, order-length, once-full}
+use Rattle.orders.proofs.Indices.{first-or-none, before-right, before-across, put-last, in-put, put-before, put-once, every-at, every-from, stands-in, in-stands, from-in, in-from, from-last, order-length, once-full}
 use Rattle.orders.proofs.Least.{least-miss, least-hit, least-end, least-is}
 use Rattle.orders.proofs.Graph.{arrow-prec, arrow-pair, arrow-cases, run-arrow, arrow-run}
 use Rattle.orders.proofs.Runs.{runs-none, runs-added}
@@ -259,7 +259,7 @@ start-table C law = record {
   none-taken = λ x w. refl;
 }
   where
-    one : (l t : ℕ) → C .wire l ≡ true → C .wire t ≡ true → (complete C ((l, t) ∷ []) ≡ true) ↔ (¬ Reach C [] (C .resetOf t) (C .measOf l))
+    one : (l t : ℕ) → C .wire l ≡ true → C .wire t ≡ true → (complete C ((l, t) ∷ []) ≡ true) ↔ Clear C [] l t
     one l t a b = Iff·trans
         (complete-exactly C law ((l, t) ∷ []) (λ u v k. elim k [
           | inl e ↦ subst (λ (p : Pair). (C .wire (p .0) ≡ true) × (C .wire (p .1) ≡ true)) (sym e) (a, b)

@@ -3,11 +3,11 @@
 -- in which such neighbours commute, every run means what the input meant. Assumes nothing.
 use Prim.Native.Nat.{ℕ}
 use mathlib.Core.Path.{_≡_, refl, sym, _∙_, ap, subst}
-use mathlib.Core.Logic.{_⊎_, inl, inr, _↔_, _≢_}
+use mathlib.Core.Logic.{inl, inr, _↔_, _≢_}
 use mathlib.Core.Bool.{true, false}
 use mathlib.Core.List.{List, [], _∷_, _++_}
 use Rattle.basics.proofs.Tests.{not-both, refuted}
-use Rattle.orders.specs.Indices.{In, Before, Once, Order, inputOrder}
+use Rattle.orders.specs.Indices.{In, Before, Once, inputOrder}
 use Rattle.orders.specs.Runs.{Circuit, Lawful, Pair, Run}
 use Rattle.orders.specs.Swaps.{Exchanged, here, later, Reached, same, swap, effect}
 use Rattle.orders.proofs.Indices.{before-left, before-right, before-trans, before-irrefl, Put, first, further, put-out, put-in, put-there, in-put, before-put, once-put}

@@ -1,20 +1,19 @@
 -- Demand 3: after any offers of any numbers, the table's marks say exactly which pairs can be added. What every accepted offer keeps is the
 -- same by the graph: a path with the new pair is an old path, or an old one to the lender's measurement and an old one from the taker's reset.
 -- Assumes nothing.
-use Prim.Native.Nat.{ℕ, _<_}
-use mathlib.Core.Path.{_≡_, refl, sym, ap, subst}
+use Prim.Native.Nat.{ℕ}
+use mathlib.Core.Path.{_≡_, refl, sym, subst}
 use mathlib.Core.Logic.{_⊎_, inl, inr, _↔_, Iff·symm}
 use mathlib.Core.Bool.{Bool, true, false, not, _&&_, _||_}
 use mathlib.Core.List.{List, [], _∷_}
 use lib.Dec.{eqb}
-use borrow.Author.Tests.{eqb-true, eqb-false, eq-eqb, not-true}
+use borrow.Author.Tests.{eqb-true, eq-eqb, not-true}
 use Rattle.basics.proofs.Tests.{not-both, refuted, not-of-false, both, and-intro, either, or-left, or-right, neither, or-neither, true-or-false}
-use Rattle.orders.specs.Indices.{In}
-use Rattle.orders.specs.Runs.{Circuit, Lawful, Pair, Runs, Allowed, lendersOf, takersOf}
-use Rattle.orders.specs.Graph.{Reach}
-use Rattle.orders.specs.Table.{Table, State, Start, Says, Exact, ExactByReach, accept, accepted, fresh, offer, offers, Within}
+use Rattle.orders.specs.Runs.{Circuit, Lawful, Pair, Runs, Allowed}
+use Rattle.orders.specs.Graph.{Reach, Clear}
+use Rattle.orders.specs.Table.{Table, State, Start, Open, Says, Exact, ExactByReach, accept, accepted, fresh, offer, offers, Within}
 use Rattle.orders.proofs.Graph.{reach-added}
-use Rattle.orders.proofs.Runs.{runs-none, runs-added}
+use Rattle.orders.proofs.Runs.{runs-none, runs-added, runs-self}
 
 -- ## The rule
 
@@ -53,14 +52,16 @@ offers-keep Inv keep (p ∷ os) s h =
       | inr f ↦ subst Inv (sym (offer-no p s f)) h
     ])
 
--- what says the same of wires makes a table say the same
+-- where two say the same of wires, a table that says the one says the other
 says-alike : (C : Circuit) (T : Table) (ps : List Pair) (May May′ : ℕ → ℕ → Type 0)
     → ((l t : ℕ) → C .wire l ≡ true → C .wire t ≡ true → May l t ↔ May′ l t) → Says C T ps May → Says C T ps May′
 says-alike C T ps May May′ alike h = record {
   allowed = h .allowed;
   marks = λ l t. (
-    (λ m. let r = h .marks l t .0 m in (r .0, r .1, r .2, r .3, alike l t (r .0) (r .1) .0 (r .4))),
-    λ q. h .marks l t .1 (q .0, q .1, q .2, q .3, alike l t (q .0) (q .1) .1 (q .4)),
+    (λ m. let o = h .marks l t .0 m in
+        record { lender = o .lender; taker = o .taker; not-lent = o .not-lent; not-taken = o .not-taken; may = alike l t (o .lender) (o .taker) .0 (o .may) }),
+    λ o. h .marks l t .1
+        (record { lender = o .lender; taker = o .taker; not-lent = o .not-lent; not-taken = o .not-taken; may = alike l t (o .lender) (o .taker) .1 (o .may) }),
   );
   lenders = h .lenders;
   takers = h .takers;
@@ -70,73 +71,82 @@ module _ (C : Circuit) (law : Lawful C) where
   -- ## What an accepted pair keeps
 
   module _ (l t : ℕ) (T : Table) (ps : List Pair) (h : ExactByReach C T ps) (m : T .mark l t ≡ true) where
-    free : (C .wire l ≡ true) × (C .wire t ≡ true) × (T .lent l ≡ false) × (T .taken t ≡ false) × (¬ Reach C ps (C .resetOf t) (C .measOf l))
-    free = h .marks l t .0 m
+    given : Open C T (Clear C ps) l t
+    given = h .marks l t .0 m
 
     accept-allowed : Allowed C ((l, t) ∷ ps)
     accept-allowed = record {
       between = λ u v k. elim k [
-        | inl e ↦ subst (λ (p : Pair). (C .wire (p .0) ≡ true) × (C .wire (p .1) ≡ true)) (sym e) (free .0, free .1)
+        | inl e ↦ subst (λ (p : Pair). (C .wire (p .0) ≡ true) × (C .wire (p .1) ≡ true)) (sym e) (given .lender, given .taker)
         | inr g ↦ h .allowed .between u v g
       ];
-      lend-once = (λ k. not-both (T .lent l) (h .lenders l (free .0) .1 k) (free .2), h .allowed .lend-once);
-      take-once = (λ k. not-both (T .taken t) (h .takers t (free .1) .1 k) (free .3), h .allowed .take-once);
-      runs = runs-added C law l t ps (free .0) (free .1) (h .allowed .runs) .1 (free .4);
+      lend-once = (λ k. not-both (T .lent l) (h .lenders l (given .lender) .1 k) (given .not-lent), h .allowed .lend-once);
+      take-once = (λ k. not-both (T .taken t) (h .takers t (given .taker) .1 k) (given .not-taken), h .allowed .take-once);
+      runs = runs-added C law l t ps (given .lender) (given .taker) (h .allowed .runs) .1 (given .may);
     }
 
-    -- where (l, v) and (u, t) are both no, v's reset leads to l's measurement, or is used, and t's to u's
-    accept-marks : (u v : ℕ) → (accept (l, t) T .mark u v ≡ true)
-        ↔ ((C .wire u ≡ true) × (C .wire v ≡ true) × (accept (l, t) T .lent u ≡ false) × (accept (l, t) T .taken v ≡ false) × (¬ Reach C ((l, t) ∷ ps) (C .resetOf v) (C .measOf u)))
+    -- a yes that is left is clear: a new path would lead from v's reset to l's measurement and from t's to u's, but one of the two is yes
+    left-open : (u v : ℕ) → accept (l, t) T .mark u v ≡ true → Open C (accept (l, t) T) (Clear C ((l, t) ∷ ps)) u v
     unfolding accept
-    accept-marks u v = (
-      λ k.
-          let p = accept-mark l t T u v .0 k in
-          let q = h .marks u v .0 (p .2) in (
-            q .0,
-            q .1,
-            or-neither (eqb u l) (T .lent u) (p .0) (q .2),
-            or-neither (eqb v t) (T .taken v) (p .1) (q .3),
-            λ r. elim (reach-added C l t ps (C .resetOf v) (C .measOf u) .0 r) [
-              | inl a ↦ q .4 a
-              | inr b ↦ elim (either (T .mark l v) (T .mark u t) (p .3)) [ inl c ↦ h .marks l v .0 c .4 (b .0) | inr d ↦ h .marks u t .0 d .4 (b .1) ]
-            ],
-          ),
-      λ q.
-          let a = neither (eqb u l) (T .lent u) (q .2) in
-          let b = neither (eqb v t) (T .taken v) (q .3) in
-          accept-mark l t T u v .1 (
-            a .0,
-            b .0,
-            h .marks u v .1 (q .0, q .1, a .1, b .1, λ r. q .4 (reach-added C l t ps (C .resetOf v) (C .measOf u) .1 (inl r))),
-            elim (true-or-false (T .mark l v || T .mark u t)) [
-              | inl y ↦ y
-              | inr f ↦ absurd (not-both (T .mark l v)
-                  (h .marks l v .1 (
-                    free .0,
-                    q .1,
-                    free .2,
-                    b .1,
-                    λ x. not-both (T .mark u t)
-                        (h .marks u t .1 (q .0, free .1, a .1, free .3, λ y. q .4 (reach-added C l t ps (C .resetOf v) (C .measOf u) .1 (inr (x, y)))))
-                        (neither (T .mark l v) (T .mark u t) f .1),
-                  ))
-                  (neither (T .mark l v) (T .mark u t) f .0))
-            ],
-          ),
-    )
+    left-open u v k =
+        let a = accept-mark l t T u v .0 k in
+        let o = h .marks u v .0 (a .2) in
+        record {
+          lender = o .lender;
+          taker = o .taker;
+          not-lent = or-neither (eqb u l) (T .lent u) (a .0) (o .not-lent);
+          not-taken = or-neither (eqb v t) (T .taken v) (a .1) (o .not-taken);
+          may = λ r. elim (reach-added C l t ps (C .resetOf v) (C .measOf u) .0 r) [
+            | inl old ↦ o .may old
+            | inr new ↦ elim (either (T .mark l v) (T .mark u t) (a .3)) [
+              | inl b ↦ h .marks l v .0 b .may (new .0)
+              | inr c ↦ h .marks u t .0 c .may (new .1)
+            ]
+          ];
+        }
+
+    -- and back: were (l, v) and (u, t) both no, v's reset would lead to l's measurement and t's to u's, and the new pair would join the two
+    open-left : (u v : ℕ) → Open C (accept (l, t) T) (Clear C ((l, t) ∷ ps)) u v → accept (l, t) T .mark u v ≡ true
+    unfolding accept
+    open-left u v o =
+        let a = neither (eqb u l) (T .lent u) (o .not-lent) in
+        let b = neither (eqb v t) (T .taken v) (o .not-taken) in
+        accept-mark l t T u v .1 (
+          a .0,
+          b .0,
+          h .marks u v .1 (record { lender = o .lender; taker = o .taker; not-lent = a .1; not-taken = b .1; may = λ r. o .may (added .1 (inl r)) }),
+          elim (true-or-false (T .mark l v || T .mark u t)) [
+            | inl y ↦ y
+            | inr n ↦ absurd (not-both (T .mark l v)
+                (h .marks l v .1 (record {
+                  lender = given .lender;
+                  taker = o .taker;
+                  not-lent = given .not-lent;
+                  not-taken = b .1;
+                  may = λ x. not-both (T .mark u t)
+                      (h .marks u t .1 (record { lender = o .lender; taker = given .taker; not-lent = a .1; not-taken = given .not-taken; may = λ y. o .may (added .1 (inr (x, y))) }))
+                      (neither (T .mark l v) (T .mark u t) n .1);
+                }))
+                (neither (T .mark l v) (T .mark u t) n .0))
+          ],
+        )
+      where
+        added : Reach C ((l, t) ∷ ps) (C .resetOf v) (C .measOf u)
+            ↔ (Reach C ps (C .resetOf v) (C .measOf u) ⊎ (Reach C ps (C .resetOf v) (C .measOf l) × Reach C ps (C .resetOf t) (C .measOf u)))
+        added = reach-added C l t ps (C .resetOf v) (C .measOf u)
 
     accept-says : ExactByReach C (accept (l, t) T) ((l, t) ∷ ps)
     unfolding accept
     accept-says = record {
       allowed = accept-allowed;
-      marks = accept-marks;
+      marks = λ u v. (left-open u v, open-left u v);
       lenders = λ x w. used (eqb-true x l) (eq-eqb x l) (h .lenders x w);
       takers = λ x w. used (eqb-true x t) (eq-eqb x t) (h .takers x w);
     }
       where
         -- a used mark is the new pair's or an old one
         used : {A B : Type 0} {a b : Bool} → (a ≡ true → A) → (A → a ≡ true) → (b ≡ true) ↔ B → ((a || b) ≡ true) ↔ (A ⊎ B)
-        used {A} {B} {a} {b} to back old = (
+        used {a = a} {b = b} to back old = (
           λ k. elim (either a b k) [ inl e ↦ inl (to e) | inr g ↦ inr (old .0 g) ],
           λ k. elim k [ inl e ↦ or-left a b (back e) | inr g ↦ or-right a b (old .1 g) ],
         )
@@ -145,8 +155,9 @@ module _ (C : Circuit) (law : Lawful C) where
   start-says T s = record {
     allowed = record { between = λ l t h. absurd h; lend-once = tt; take-once = tt; runs = runs-none C law };
     marks = λ l t. (
-      (λ m. let r = s .marks l t .0 m in (r .0, r .1, s .none-lent l (r .0), s .none-taken t (r .1), r .2)),
-      λ q. s .marks l t .1 (q .0, q .1, q .4),
+      (λ m. let r = s .marks l t .0 m in
+          record { lender = r .0; taker = r .1; not-lent = s .none-lent l (r .0); not-taken = s .none-taken t (r .1); may = r .2 }),
+      λ o. s .marks l t .1 (o .lender, o .taker, o .may),
     );
     lenders = λ x w. (λ k. not-both (T .lent x) k (s .none-lent x w), λ k. absurd k);
     takers = λ x w. (λ k. not-both (T .taken x) k (s .none-taken x w), λ k. absurd k);
@@ -190,23 +201,27 @@ module _ (C : Circuit) (law : Lawful C) where
     λ m. accept-allowed l t T ps (exact-by-reach T ps h) m,
     λ a.
         let w = a .between l t (inl refl) in
-        h .marks l t .1 (
-          w .0,
-          w .1,
-          refuted (T .lent l) (λ k. a .lend-once .0 (h .lenders l (w .0) .0 k)),
-          refuted (T .taken t) (λ k. a .take-once .0 (h .takers t (w .1) .0 k)),
-          a .runs,
-        ),
+        h .marks l t .1 (record {
+          lender = w .0;
+          taker = w .1;
+          not-lent = refuted (T .lent l) (λ k. a .lend-once .0 (h .lenders l (w .0) .0 k));
+          not-taken = refuted (T .taken t) (λ k. a .take-once .0 (h .takers t (w .1) .0 k));
+          may = a .runs;
+        }),
   )
 
   -- a no between wires that are not used is a loop: the pairs do not run with this one
   pub exact-loop : (T : Table) (ps : List Pair) → Exact C T ps → (l t : ℕ) → C .wire l ≡ true → C .wire t ≡ true → T .lent l ≡ false → T .taken t ≡ false
       → (T .mark l t ≡ false) ↔ (¬ Runs C ((l, t) ∷ ps))
   exact-loop T ps h l t wl wt a b = (
-    λ m r. not-both (T .mark l t) (h .marks l t .1 (wl, wt, a, b, r)) m,
-    λ n. refuted (T .mark l t) (λ m. n (h .marks l t .0 m .4)),
+    λ m r. not-both (T .mark l t) (h .marks l t .1 (record { lender = wl; taker = wt; not-lent = a; not-taken = b; may = r })) m,
+    λ n. refuted (T .mark l t) (λ m. n (h .marks l t .0 m .may)),
   )
 
   -- marks are below the width
   pub exact-within : (T : Table) (ps : List Pair) → Exact C T ps → Within (C .width) T
-  exact-within T ps h l t m = let r = h .marks l t .0 m in (law .low l (r .0), law .low t (r .1))
+  exact-within T ps h l t m = let o = h .marks l t .0 m in (law .low l (o .lender), law .low t (o .taker))
+
+  -- a wire with itself is no
+  pub exact-self : (T : Table) (ps : List Pair) → Exact C T ps → (x : ℕ) → T .mark x x ≡ false
+  exact-self T ps h x = refuted (T .mark x x) (λ m. let o = h .marks x x .0 m in runs-self C law x ps (o .lender) (o .may))

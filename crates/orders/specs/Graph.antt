@@ -24,6 +24,10 @@ pub data Leads (e : ℕ → ℕ → Bool) : ℕ → ℕ → Type 0 where
 abbrev pub Reach : Circuit → List Pair → ℕ → ℕ → Type 0
 Reach C ps = Leads (arrow C ps)
 
+-- the way from l to t is clear: t's reset does not lead to l's measurement
+abbrev pub Clear : Circuit → List Pair → ℕ → ℕ → Type 0
+Clear C ps l t = ¬ Reach C ps (C .resetOf t) (C .measOf l)
+
 -- an arrow, and a path back
 abbrev pub Cycle : Circuit → List Pair → Type 0
 Cycle C ps = (i : ℕ) × (j : ℕ) × (arrow C ps i j ≡ true) × Reach C ps j i

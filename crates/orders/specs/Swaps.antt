@@ -1,7 +1,7 @@
 -- Exchanging neighbours that need not keep their order, and what effect a list of instructions has. Definitions alone.
 use Prim.Native.Nat.{ℕ}
 use mathlib.Core.Path.{_≡_}
-use mathlib.Core.Bool.{Bool, true, false}
+use mathlib.Core.Bool.{false}
 use mathlib.Core.List.{List, [], _∷_}
 use Rattle.orders.specs.Runs.{Circuit}
 

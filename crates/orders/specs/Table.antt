@@ -9,7 +9,7 @@ use lib.Dec.{eqb}
 use Rattle.basics.specs.Choice.{pick}
 use Rattle.orders.specs.Indices.{In}
 use Rattle.orders.specs.Runs.{Circuit, Pair, Runs, Allowed, lendersOf, takersOf}
-use Rattle.orders.specs.Graph.{Reach}
+use Rattle.orders.specs.Graph.{Clear}
 
 -- `mark l t` is true where "l may lend to t" is yes; `lent` and `taken` mark what is used
 pub record Table : Type 0 where
@@ -49,15 +49,23 @@ offers (p ∷ ps) s = offers ps (offer p s)
 
 -- the table at the start: between wires, yes exactly where the taker's reset does not lead to the lender's measurement; no wire is used
 pub record Start (C : Circuit) (T : Table) : Type 0 where
-  pub marks : (l t : ℕ) → (T .mark l t ≡ true) ↔ ((C .wire l ≡ true) × (C .wire t ≡ true) × (¬ Reach C [] (C .resetOf t) (C .measOf l)))
+  pub marks : (l t : ℕ) → (T .mark l t ≡ true) ↔ ((C .wire l ≡ true) × (C .wire t ≡ true) × Clear C [] l t)
   pub none-lent : (x : ℕ) → C .wire x ≡ true → T .lent x ≡ false
   pub none-taken : (x : ℕ) → C .wire x ≡ true → T .taken x ≡ false
 
--- The table T says of the pairs ps what `May` says: a mark is yes exactly between wires, where the lender has not lent, the taker has
--- not taken, and l may lend to t. The pairs are allowed, and the used marks of wires are the pairs'.
+-- nothing speaks against l to t: both are wires, l has not lent, t has not taken, and `May` holds of them
+pub record Open (C : Circuit) (T : Table) (May : ℕ → ℕ → Type 0) (l t : ℕ) : Type 0 where
+  pub lender : C .wire l ≡ true
+  pub taker : C .wire t ≡ true
+  pub not-lent : T .lent l ≡ false
+  pub not-taken : T .taken t ≡ false
+  pub may : May l t
+
+-- The table T says of the pairs ps what `May` says: a mark is yes exactly where nothing speaks against the pair, and no everywhere else.
+-- The pairs are allowed, and the used marks of wires are the pairs'.
 pub record Says (C : Circuit) (T : Table) (ps : List Pair) (May : ℕ → ℕ → Type 0) : Type 0 where
   pub allowed : Allowed C ps
-  pub marks : (l t : ℕ) → (T .mark l t ≡ true) ↔ ((C .wire l ≡ true) × (C .wire t ≡ true) × (T .lent l ≡ false) × (T .taken t ≡ false) × May l t)
+  pub marks : (l t : ℕ) → (T .mark l t ≡ true) ↔ Open C T May l t
   pub lenders : (x : ℕ) → C .wire x ≡ true → (T .lent x ≡ true) ↔ In x (lendersOf ps)
   pub takers : (x : ℕ) → C .wire x ≡ true → (T .taken x ≡ true) ↔ In x (takersOf ps)
 
@@ -67,7 +75,7 @@ Exact C T ps = Says C T ps (λ l t. Runs C ((l, t) ∷ ps))
 
 -- The same by the graph: yes exactly where the taker's reset does not lead to the lender's measurement.
 abbrev pub ExactByReach : Circuit → Table → List Pair → Type 0
-ExactByReach C T ps = Says C T ps (λ l t. ¬ Reach C ps (C .resetOf t) (C .measOf l))
+ExactByReach C T ps = Says C T ps (Clear C ps)
 
 -- a table of width w: yes marks are below it only
 abbrev pub Within : ℕ → Table → Type 0
