@@ -26,7 +26,7 @@ use Rattle.orders.proofs.Least.{least-hit, least-miss}
 use Rattle.orders.proofs.Schedule.{schedule-runs, schedule-complete, complete-exactly, schedule-none, schedule-same, start-table}
 use Rattle.orders.proofs.Swaps.{run-reached, effect-kept}
 use Rattle.orders.proofs.Pairs.{allowed-few}
-use Rattle.orders.proofs.Rounds.{rounds-end, chosen-maximal}
+use Rattle.orders.proofs.Rounds.{rounds-end, rounds-start}
 
 -- ## Circuits as the worked ones are laid out: a reset of each wire in turn, gates on two wires, a measurement of each wire in turn
 
@@ -300,7 +300,7 @@ chosen-B = refl
 -- no pair can be added to it
 maximal-B : Maximal B ((1, 2) ∷ (0, 1) ∷ [])
 unfolding B worked
-maximal-B = subst (Maximal B) chosen-B (chosen-maximal B lawful-B (firstYes 3) (first-yes 3) (startTable B) (start-table B lawful-B))
+maximal-B = subst (Maximal B) chosen-B (rounds-start B lawful-B (firstYes 3) (first-yes 3) (startTable B) (start-table B lawful-B) .maximal)
 
 -- and no list for B is longer
 few-B : (ps : List Pair) → Allowed B ps → length ps ≤ 2

@@ -262,7 +262,10 @@ once-full n xs o h e i l = elim (in-or-out i xs) [
       )
 ]
 
+-- a list that has all numbers below n has n at least
+pub full-length : (n : ℕ) (xs : List ℕ) → ((i : ℕ) → i < n → In i xs) → n ≤ length xs
+full-length n xs all = omega (arith, once-fits (from 0 n) xs (from-once 0 n) (λ a k. all a (input-order n .only a k)), from-length 0 n)
+
 -- an order of n instructions has n
 pub order-length : (n : ℕ) (σ : List ℕ) → Order n σ → length σ ≡ n
-order-length n σ o =
-    omega (arith, once-below n σ (o .once) (o .only), once-fits (from 0 n) σ (from-once 0 n) (λ a k. o .all a (input-order n .only a k)), from-length 0 n)
+order-length n σ o = omega (arith, once-below n σ (o .once) (o .only), full-length n σ (o .all))

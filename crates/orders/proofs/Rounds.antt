@@ -15,10 +15,21 @@ use Rattle.basics.proofs.Tests.{not-both, refuted}
 use Rattle.orders.specs.Indices.{In, from}
 use Rattle.orders.specs.Runs.{Circuit, Lawful, Pair}
 use Rattle.orders.specs.Table.{Table, State, Start, Exact, Within, accept, accepted, fresh}
-use Rattle.orders.specs.Rounds.{Chooser, Chooses, rounds, NoneLeft, Maximal, total, rowCount, yesCount}
+use Rattle.orders.specs.Rounds.{Chooser, Chooses, rounds, NoneLeft, Ended, total, rowCount, yesCount}
 use Rattle.orders.proofs.Indices.{from-in}
 use Rattle.orders.proofs.Table.{accept-mark, offer-yes, accepted-exact, start-exact, exact-allowed, exact-within}
 use Rattle.orders.proofs.Pairs.{allowed-few}
+
+-- where none is chosen the rounds are over; where a yes is, it is accepted and they go on
+pub rounds-none : (choose : Chooser) (k : ℕ) (s : State) → choose (s .table) ≡ none → rounds choose k s ≡ s
+unfolding rounds
+rounds-none choose zero s e = refl
+rounds-none choose (suc k) s e = rw (rounds, e)
+
+pub rounds-some : (choose : Chooser) (k : ℕ) (s : State) (p : Pair) → choose (s .table) ≡ some p → s .table .mark (p .0) (p .1) ≡ true
+    → rounds choose (suc k) s ≡ rounds choose k (accepted p s)
+unfolding rounds
+rounds-some choose k s p e m = rw (rounds, e) (ap (rounds choose k) (offer-yes p s m))
 
 -- ## Rounds over anything that falls
 
@@ -35,15 +46,6 @@ module _ (w : ℕ) (choose : Chooser) (rule : Chooses w choose) (Inv : State →
       go none e = inl (e, rule .none-left (s .table) (narrow s h) e)
       go (some p) e = inr (p, e, rule .only-yes (s .table) (narrow s h) (p .0) (p .1) e)
 
-  rounds-none : (k : ℕ) (s : State) → choose (s .table) ≡ none → rounds choose k s ≡ s
-  unfolding rounds
-  rounds-none zero s e = refl
-  rounds-none (suc k) s e = rw (rounds, e)
-
-  rounds-some : (k : ℕ) (s : State) (p : Pair) → choose (s .table) ≡ some p → s .table .mark (p .0) (p .1) ≡ true → rounds choose (suc k) s ≡ rounds choose k (accepted p s)
-  unfolding rounds
-  rounds-some k s p e m = rw (rounds, e) (ap (rounds choose k) (offer-yes p s m))
-
   -- where nothing can fall, no yes is left
   at-bottom : (s : State) → Inv s → measure s ≤ 0 → NoneLeft (s .table)
   at-bottom s h b l t = refuted (s .table .mark l t) (λ m. omega (arith, falls (l, t) s h m .1))
@@ -53,22 +55,22 @@ module _ (w : ℕ) (choose : Chooser) (rule : Chooses w choose) (Inv : State →
   unfolding rounds
   rounds-ended zero s h b = (h, at-bottom s h b)
   rounds-ended (suc k) s h b = elim (chosen s h) [
-    | inl c ↦ rw (rounds-none (suc k) s (c .0)) (h, c .1)
-    | inr (p, e, m) ↦ (let f = falls p s h m in rw (rounds-some k s p e m) (rounds-ended k (accepted p s) (f .0) (omega arith)))
+    | inl c ↦ rw (rounds-none choose (suc k) s (c .0)) (h, c .1)
+    | inr (p, e, m) ↦ (let f = falls p s h m in rw (rounds-some choose k s p e m) (rounds-ended k (accepted p s) (f .0) (omega arith)))
   ]
 
   -- and further rounds change nothing
   pub rounds-settled : (k more : ℕ) (s : State) → Inv s → measure s ≤ k → k ≤ more → rounds choose more s ≡ rounds choose k s
   rounds-settled zero more s h b le = elim (chosen s h) [
-    | inl c ↦ rounds-none more s (c .0) ∙ sym (rounds-none zero s (c .0))
+    | inl c ↦ rounds-none choose more s (c .0) ∙ sym (rounds-none choose zero s (c .0))
     | inr (p, e, m) ↦ absurd (not-both _ m (at-bottom s h b (p .0) (p .1)))
   ]
   rounds-settled (suc k) zero s h b le = absurd (omega arith)
   rounds-settled (suc k) (suc more) s h b le = elim (chosen s h) [
-    | inl c ↦ rounds-none (suc more) s (c .0) ∙ sym (rounds-none (suc k) s (c .0))
+    | inl c ↦ rounds-none choose (suc more) s (c .0) ∙ sym (rounds-none choose (suc k) s (c .0))
     | inr (p, e, m) ↦ (
         let f = falls p s h m in
-        rounds-some more s p e m ∙ rounds-settled k more (accepted p s) (f .0) (omega arith) (omega arith) ∙ sym (rounds-some k s p e m)
+        rounds-some choose more s p e m ∙ rounds-settled k more (accepted p s) (f .0) (omega arith) (omega arith) ∙ sym (rounds-some choose k s p e m)
         )
   ]
 
@@ -142,22 +144,17 @@ module _ (C : Circuit) (law : Lawful C) (choose : Chooser) (rule : Chooses (C .w
       let few : suc (length (s .pairs)) ≤ C .width - 1 = allowed-few C law (p ∷ s .pairs) (e .allowed) in
       (e, omega arith)
 
-  -- THEOREM: on a table grown from a circuit, width - 1 rounds leave no yes; the table is exact, and no pair can be added to the list, which has
-  -- at most width - 1.
-  pub rounds-grown : (s : State) → Exact C (s .table) (s .pairs) → (k : ℕ) → C .width - 1 ≤ k
-      → Exact C (rounds choose k s .table) (rounds choose k s .pairs) × NoneLeft (rounds choose k s .table)
-      × Maximal C (rounds choose k s .pairs) × (length (rounds choose k s .pairs) ≤ C .width - 1)
+  -- THEOREM: on a table grown from a circuit, width - 1 rounds leave no yes, and no pair can be added to the list.
+  pub rounds-grown : (s : State) → Exact C (s .table) (s .pairs) → (k : ℕ) → C .width - 1 ≤ k → Ended C (rounds choose k s)
   unfolding left
   rounds-grown s h k b =
-      let r = rounds-ended (C .width) choose rule (λ s. Exact C (s .table) (s .pairs)) left (λ s. exact-within C law (s .table) (s .pairs)) left-falls k s h (omega arith) in (
-        r .0,
-        r .1,
-        record {
-          allowed = r .0 .allowed;
-          no-more = λ l t a. not-both _ (exact-allowed C law _ _ (r .0) l t .1 a) (r .1 l t);
-        },
-        allowed-few C law _ (r .0 .allowed),
-      )
+      let r = rounds-ended (C .width) choose rule (λ s. Exact C (s .table) (s .pairs)) left (λ s. exact-within C law (s .table) (s .pairs)) left-falls k s h (omega arith) in
+      record {
+        exact = r .0;
+        none-left = r .1;
+        maximal = record { allowed = r .0 .allowed; no-more = λ l t a. not-both _ (exact-allowed C law _ _ (r .0) l t .1 a) (r .1 l t) };
+        few = allowed-few C law _ (r .0 .allowed);
+      }
 
   -- THEOREM: and further rounds change nothing.
   pub rounds-grown-stay : (s : State) → Exact C (s .table) (s .pairs) → (k : ℕ) → C .width - 1 ≤ k → rounds choose k s ≡ rounds choose (C .width - 1) s
@@ -166,5 +163,5 @@ module _ (C : Circuit) (law : Lawful C) (choose : Chooser) (rule : Chooses (C .w
       rounds-settled (C .width) choose rule (λ s. Exact C (s .table) (s .pairs)) left (λ s. exact-within C law (s .table) (s .pairs)) left-falls (C .width - 1) k s h (omega arith) b
 
   -- THEOREM: from the start table, width - 1 rounds choose a list to which no pair can be added.
-  pub chosen-maximal : (T : Table) → Start C T → Maximal C (rounds choose (C .width - 1) (fresh T) .pairs)
-  chosen-maximal T st = rounds-grown (fresh T) (start-exact C law T st) (C .width - 1) (omega arith) .2
+  pub rounds-start : (T : Table) → Start C T → Ended C (rounds choose (C .width - 1) (fresh T))
+  rounds-start T st = rounds-grown (fresh T) (start-exact C law T st) (C .width - 1) (omega arith)

@@ -14,8 +14,8 @@ use Rattle.orders.specs.Indices.{In, Before, Once, stands, from, inputOr
 use Rattle.orders.specs.Runs.{Circuit, Lawful, Pair, Run, Runs, BetweenWires, SamePairs}
 use Rattle.orders.specs.Graph.{arrow, Clear}
 use Rattle.orders.specs.Table.{Start}
-use Rattle.orders.specs.Schedule.{earlierWritten, lenderWritten, ready, next, writeOn, schedule, complete, startTable}
-use Rattle.orders.proofs.Indices.{first-or-none, before-right, before-across, put-last, in-put, put-before, put-once, every-at, every-from, stands-in, in-stands, from-in, in-from, from-last, order-length, once-full}
+use Rattle.orders.specs.Schedule.{earlierWritten, lenderWritten, ready, least, next, writeOn, schedule, complete, startTable}
+use Rattle.orders.proofs.Indices.{first-or-none, before-right, before-across, put-last, in-put, put-before, put-once, every-at, every-from, stands-in, in-stands, from-in, in-from, from-last, full-length, order-length, once-full}
 use Rattle.orders.proofs.Least.{least-miss, least-hit, least-end, least-is}
 use Rattle.orders.proofs.Graph.{arrow-prec, arrow-pair, arrow-cases, run-arrow, arrow-run}
 use Rattle.orders.proofs.Runs.{runs-none, runs-added}
@@ -63,32 +63,32 @@ module _ (C : Circuit) (law : Lawful C) where
 
 -- ## What comes next
 
-module _ (may : List ℕ → ℕ → Bool) (n : ℕ) (done : List ℕ) where
-  pub next-may : next may n done < n → may done (next may n done) ≡ true
+module _ (C : Circuit) (ps : List Pair) (done : List ℕ) where
+  pub next-ready : next C ps done < C .size → ready C ps done (next C ps done) ≡ true
   unfolding next
-  next-may l = least-hit (may done) n 0 (omega arith)
+  next-ready l = least-hit (ready C ps done) (C .size) 0 (omega arith)
 
-  pub next-least : (m : ℕ) → m < next may n done → may done m ≡ false
+  pub next-least : (m : ℕ) → m < next C ps done → ready C ps done m ≡ false
   unfolding next
-  next-least m l = least-miss (may done) n 0 m (omega arith) l
+  next-least m l = least-miss (ready C ps done) (C .size) 0 m (omega arith) l
 
-  pub next-end : next may n done ≤ n
+  pub next-end : next C ps done ≤ C .size
   unfolding next
-  next-end = omega (arith, least-end (may done) n 0)
+  next-end = omega (arith, least-end (ready C ps done) (C .size) 0)
 
-  pub next-is : (j : ℕ) → j < n → ((m : ℕ) → m < j → may done m ≡ false) → may done j ≡ true → next may n done ≡ j
+  pub next-is : (j : ℕ) → j < C .size → ((m : ℕ) → m < j → ready C ps done m ≡ false) → ready C ps done j ≡ true → next C ps done ≡ j
   unfolding next
-  next-is j l below t = least-is (may done) n j l below t
+  next-is j l below t = least-is (ready C ps done) (C .size) j l below t
 
-  pub writeOn-more : (f : ℕ) → next may n done < n → writeOn may n (suc f) done ≡ writeOn may n f (done ++ next may n done ∷ [])
+  pub writeOn-more : (f : ℕ) → next C ps done < C .size → writeOn C ps (suc f) done ≡ writeOn C ps f (done ++ next C ps done ∷ [])
   unfolding writeOn
-  writeOn-more f l = rw (writeOn, lt-ltb (next may n done) n l)
+  writeOn-more f l = rw (writeOn, lt-ltb (next C ps done) (C .size) l)
 
-  pub writeOn-stuck : (f : ℕ) → n ≤ next may n done → writeOn may n (suc f) done ≡ done
+  pub writeOn-stuck : (f : ℕ) → C .size ≤ next C ps done → writeOn C ps (suc f) done ≡ done
   unfolding writeOn
-  writeOn-stuck f l = rw (writeOn, le-ltb (next may n done) n l)
+  writeOn-stuck f l = rw (writeOn, le-ltb (next C ps done) (C .size) l)
 
-  pub writeOn-end : writeOn may n 0 done ≡ done
+  pub writeOn-end : writeOn C ps 0 done ≡ done
   unfolding writeOn
   writeOn-end = refl
 
@@ -117,13 +117,11 @@ module _ (C : Circuit) (law : Lawful C) (ps : List Pair) where
       free : (¬ In j done) × ((i : ℕ) → arrow C ps i j ≡ true → In i done)
       free = ready-exactly C law ps done j .0 r
 
-  writeOn-written : (f : ℕ) (done : List ℕ) → Written C ps done → Written C ps (writeOn (ready C ps) (C .size) f done)
-  writeOn-written zero done w = rw (writeOn-end (ready C ps) (C .size) done) w
-  writeOn-written (suc f) done w = elim (below-or-not (next (ready C ps) (C .size) done) (C .size)) [
-    | inl l ↦
-        rw (writeOn-more (ready C ps) (C .size) done f l)
-        (writeOn-written f (done ++ next (ready C ps) (C .size) done ∷ []) (written-more done _ w l (next-may (ready C ps) (C .size) done l)))
-    | inr e ↦ rw (writeOn-stuck (ready C ps) (C .size) done f e) w
+  writeOn-written : (f : ℕ) (done : List ℕ) → Written C ps done → Written C ps (writeOn C ps f done)
+  writeOn-written zero done w = rw (writeOn-end C ps done) w
+  writeOn-written (suc f) done w = elim (below-or-not (next C ps done) (C .size)) [
+    | inl l ↦ rw (writeOn-more C ps done f l) (writeOn-written f (done ++ next C ps done ∷ []) (written-more done _ w l (next-ready C ps done l)))
+    | inr e ↦ rw (writeOn-stuck C ps done f e) w
   ]
 
   -- whatever the pairs, what is written is in order
@@ -131,37 +129,31 @@ module _ (C : Circuit) (law : Lawful C) (ps : List Pair) where
   unfolding schedule
   schedule-written = writeOn-written (C .size) [] (written-none C ps)
 
-  -- ## It is complete where the pairs run
+  -- ## Where the pairs run it does not stop early
 
-  module _ (σ : List ℕ) (r : Run C ps σ) where
-    -- as long as something is missing, something is ready: the first of the run that is not written
-    progress : (done : List ℕ) → (next (ready C ps) (C .size) done < C .size) ⊎ ((i : ℕ) → i < C .size → In i done)
-    progress done = elim (first-or-none (λ i. not (stands i done)) σ (r .order .once)) [
-      | inl f ↦ inl (elim (below-or-not (next (ready C ps) (C .size) done) (C .size)) [
-        | inl l ↦ l
-        | inr e ↦ absurd (not-both (ready C ps done (f .at))
-            (ready-exactly C law ps done (f .at) .1 (
-              λ k. not-both (stands (f .at) done) (in-stands (f .at) done k) (not-true _ (f .passes)),
-              λ i a. stands-in i done (not-false _ (f .before i (run-arrow C ps σ r i (f .at) a))),
-            ))
-            (next-least (ready C ps) (C .size) done (f .at) (omega (arith, r .order .only (f .at) (f .among)))))
-      ])
-      | inr none ↦ inr (λ i l. stands-in i done (not-false _ (none i (r .order .all i l))))
+  -- the first of a run that is not written is ready
+  pub next-exists : Runs C ps → (done : List ℕ) → length done < C .size → next C ps done < C .size
+  next-exists (σ, r) done l = elim (below-or-not (next C ps done) (C .size)) [
+    | inl k ↦ k
+    | inr e ↦ elim (first-or-none (λ i. not (stands i done)) σ (r .order .once)) [
+      | inl f ↦ absurd (not-both (ready C ps done (f .at))
+          (ready-exactly C law ps done (f .at) .1 (
+            λ k. not-both (stands (f .at) done) (in-stands (f .at) done k) (not-true _ (f .passes)),
+            λ i a. stands-in i done (not-false _ (f .before i (run-arrow C ps σ r i (f .at) a))),
+          ))
+          (next-least C ps done (f .at) (omega (arith, r .order .only (f .at) (f .among)))))
+      | inr none ↦ absurd (let b = full-length (C .size) done (λ i k. stands-in i done (not-false _ (none i (r .order .all i k)))) in omega arith)
     ]
+  ]
 
-    writeOn-all : (f : ℕ) (done : List ℕ) → Written C ps done → length done + f ≡ C .size
-        → (i : ℕ) → i < C .size → In i (writeOn (ready C ps) (C .size) f done)
-    writeOn-all zero done w e i l = rw (writeOn-end (ready C ps) (C .size) done) (once-full (C .size) done (w .once) (w .below) (omega arith) i l)
-    writeOn-all (suc f) done w e i l = elim (progress done) [
-      | inl k ↦
-          let j = next (ready C ps) (C .size) done in
-          rw (writeOn-more (ready C ps) (C .size) done f k)
-          (writeOn-all f (done ++ j ∷ []) (written-more done j w k (next-may (ready C ps) (C .size) done k)) (omega (arith, length-append done (j ∷ []))) i l)
-      | inr all ↦ elim (below-or-not (next (ready C ps) (C .size) done) (C .size)) [
-        | inl k ↦ absurd (ready-exactly C law ps done _ .0 (next-may (ready C ps) (C .size) done k) .0 (all _ k))
-        | inr s ↦ rw (writeOn-stuck (ready C ps) (C .size) done f s) (all i l)
-      ]
-    ]
+  writeOn-all : Runs C ps → (f : ℕ) (done : List ℕ) → Written C ps done → length done + f ≡ C .size
+      → (i : ℕ) → i < C .size → In i (writeOn C ps f done)
+  writeOn-all r zero done w e i l = rw (writeOn-end C ps done) (once-full (C .size) done (w .once) (w .below) (omega arith) i l)
+  writeOn-all r (suc f) done w e i l =
+      let k = next-exists r done (omega arith) in
+      let j = next C ps done in
+      rw (writeOn-more C ps done f k)
+      (writeOn-all r f (done ++ j ∷ []) (written-more done j w k (next-ready C ps done k)) (omega (arith, length-append done (j ∷ []))) i l)
 
   -- where it has all instructions, and arrows end at instructions, it is a run
   full-run : ((i j : ℕ) → arrow C ps i j ≡ true → j < C .size) → ((i : ℕ) → i < C .size → In i (schedule C ps)) → Run C ps (schedule C ps)
@@ -175,7 +167,7 @@ module _ (C : Circuit) (law : Lawful C) (ps : List Pair) where
   schedule-runs (σ, r) =
       full-run
       (λ i j a. r .order .only j (before-right i j σ (run-arrow C ps σ r i j a)))
-      (writeOn-all σ r (C .size) [] (written-none C ps) (omega arith))
+      (writeOn-all (σ, r) (C .size) [] (written-none C ps) (omega arith))
 
   -- THEOREM: for pairs between wires it has every instruction exactly when they run.
   pub schedule-complete : BetweenWires C ps → (length (schedule C ps) ≡ C .size) ↔ Runs C ps
@@ -201,9 +193,9 @@ module _ (C : Circuit) (law : Lawful C) (ps : List Pair) where
 -- ## With no pairs nothing moves
 
 module _ (C : Circuit) (law : Lawful C) where
-  next-input : (k : ℕ) → k < C .size → next (ready C []) (C .size) (from 0 k) ≡ k
+  next-input : (k : ℕ) → k < C .size → next C [] (from 0 k) ≡ k
   next-input k l =
-      next-is (ready C []) (C .size) (from 0 k) k l
+      next-is C [] (from 0 k) k l
       (λ m h. refuted _ (λ t. ready-exactly C law [] (from 0 k) m .0 t .0 (from-in 0 k m (omega arith) (omega arith))))
       (ready-exactly C law [] (from 0 k) k .1 (
         (λ h. let r = in-from 0 k k h in omega arith),
@@ -213,14 +205,12 @@ module _ (C : Circuit) (law : Lawful C) where
         ],
       ))
 
-  writeOn-input : (f k : ℕ) → k + f ≡ C .size → writeOn (ready C []) (C .size) f (from 0 k) ≡ from 0 (C .size)
-  writeOn-input zero k e = let q : k ≡ C .size = omega arith in writeOn-end (ready C []) (C .size) (from 0 k) ∙ ap (from 0) q
+  writeOn-input : (f k : ℕ) → k + f ≡ C .size → writeOn C [] f (from 0 k) ≡ from 0 (C .size)
+  writeOn-input zero k e = let q : k ≡ C .size = omega arith in writeOn-end C [] (from 0 k) ∙ ap (from 0) q
   writeOn-input (suc f) k e =
       let l : k < C .size = omega arith in
-      let q : next (ready C []) (C .size) (from 0 k) ≡ 0 + k = omega (arith, next-input k l) in
-      writeOn-more (ready C []) (C .size) (from 0 k) f (omega arith)
-      ∙ ap (writeOn (ready C []) (C .size) f) (ap (λ z. from 0 k ++ z ∷ []) q ∙ from-last 0 k)
-      ∙ writeOn-input f (suc k) (omega arith)
+      let q : next C [] (from 0 k) ≡ 0 + k = omega (arith, next-input k l) in
+      writeOn-more C [] (from 0 k) f (omega arith) ∙ ap (writeOn C [] f) (ap (λ z. from 0 k ++ z ∷ []) q ∙ from-last 0 k) ∙ writeOn-input f (suc k) (omega arith)
 
   -- THEOREM: with no pairs the schedule is the input order.
   pub schedule-none : schedule C [] ≡ inputOrder (C .size)
@@ -233,14 +223,33 @@ lender-fewer : (C : Circuit) (ps qs : List Pair) (done : List ℕ) (j : ℕ) →
     → lenderWritten C ps done j ≡ true → lenderWritten C qs done j ≡ true
 lender-fewer C ps qs done j sub h = lender-written C qs done j .1 (λ p k. lender-written C ps done j .0 h p (sub (p .0) (p .1) k))
 
--- THEOREM: the schedule depends on the pairs as a set only.
-pub schedule-same : (C : Circuit) (ps qs : List Pair) → SamePairs ps qs → schedule C ps ≡ schedule C qs
-unfolding schedule ready
-schedule-same C ps qs same = ap (λ may. writeOn may (C .size) (C .size) []) (fun-ext (λ done. fun-ext (λ j.
-    ap (λ b. not (stands j done) && (earlierWritten C done j && b))
-    (same-test (lenderWritten C ps done j) (lenderWritten C qs done j)
-    (lender-fewer C ps qs done j (λ l t. same l t .1))
-    (lender-fewer C qs ps done j (λ l t. same l t .0))))))
+module _ (C : Circuit) (ps qs : List Pair) (same : SamePairs ps qs) where
+  ready-same : (done : List ℕ) (j : ℕ) → ready C ps done j ≡ ready C qs done j
+  unfolding ready
+  ready-same done j = ap (λ b. not (stands j done) && (earlierWritten C done j && b))
+      (same-test (lenderWritten C ps done j) (lenderWritten C qs done j)
+      (lender-fewer C ps qs done j (λ l t. same l t .1))
+      (lender-fewer C qs ps done j (λ l t. same l t .0)))
+
+  next-same : (done : List ℕ) → next C ps done ≡ next C qs done
+  unfolding next
+  next-same done = ap (λ may. least may (C .size) 0) (fun-ext (ready-same done))
+
+  writeOn-same : (f : ℕ) (done : List ℕ) → writeOn C ps f done ≡ writeOn C qs f done
+  writeOn-same zero done = writeOn-end C ps done ∙ sym (writeOn-end C qs done)
+  writeOn-same (suc f) done =
+      let e = next-same done in
+      elim (below-or-not (next C ps done) (C .size)) [
+        | inl l ↦
+            writeOn-more C ps done f l ∙ writeOn-same f (done ++ next C ps done ∷ []) ∙ ap (λ z. writeOn C qs f (done ++ z ∷ [])) e
+            ∙ sym (writeOn-more C qs done f (omega arith))
+        | inr k ↦ writeOn-stuck C ps done f k ∙ sym (writeOn-stuck C qs done f (omega arith))
+      ]
+
+  -- THEOREM: the schedule depends on the pairs as a set only.
+  pub schedule-same : schedule C ps ≡ schedule C qs
+  unfolding schedule
+  schedule-same = writeOn-same (C .size) []
 
 -- ## A table to start from
 

@@ -1,13 +1,14 @@
 -- Choosers: rounds over any rule of choice, which sees the table and never the circuit. Definitions alone.
-use Prim.Native.Nat.{ℕ, zero, suc, _+_}
+use Prim.Native.Nat.{ℕ, zero, suc, _+_, _-_, _≤_}
 use mathlib.Core.Path.{_≡_}
 use mathlib.Core.Bool.{true, false}
 use mathlib.Core.Option.{Option, none, some}
 use mathlib.Core.List.{List, [], _∷_}
+use lib.ListN.{length}
 use Rattle.basics.specs.Choice.{pick}
 use Rattle.orders.specs.Indices.{from}
 use Rattle.orders.specs.Runs.{Circuit, Pair, Allowed}
-use Rattle.orders.specs.Table.{Table, State, offer, Within}
+use Rattle.orders.specs.Table.{Table, State, Exact, Within, offer}
 
 -- a rule of choice: from a table, a pair or none
 abbrev pub Chooser : Type 0
@@ -31,6 +32,13 @@ NoneLeft T = (l t : ℕ) → T .mark l t ≡ false
 pub record Maximal (C : Circuit) (ps : List Pair) : Type 0 where
   pub allowed : Allowed C ps
   pub no-more : (l t : ℕ) → ¬ Allowed C ((l, t) ∷ ps)
+
+-- Where the rounds on a circuit's table end: the table is exact, no yes is left, no pair can be added, and there are at most width - 1.
+pub record Ended (C : Circuit) (s : State) : Type 0 where
+  pub exact : Exact C (s .table) (s .pairs)
+  pub none-left : NoneLeft (s .table)
+  pub maximal : Maximal C (s .pairs)
+  pub few : length (s .pairs) ≤ C .width - 1
 
 -- the sum of f over a list
 unfoldable pub total : (ℕ → ℕ) → List ℕ → ℕ

@@ -2,6 +2,7 @@
 -- prefers it: an order exists). Any rule that goes upward serves: each wire's order, or the same with commuting gates. Definitions alone.
 use Prim.Native.Nat.{ℕ, _<_}
 use mathlib.Core.Path.{_≡_}
+use mathlib.Core.Logic.{_↔_}
 use mathlib.Core.Bool.{Bool, true}
 use mathlib.Core.List.{List, [], _∷_}
 use Rattle.orders.specs.Indices.{In, Before, Once, Order}
@@ -62,4 +63,4 @@ pub record Allowed (C : Circuit) (ps : List Pair) : Type 0 where
 
 -- the same pairs, in any order
 abbrev pub SamePairs : List Pair → List Pair → Type 0
-SamePairs ps qs = (l t : ℕ) → (In (l, t) ps → In (l, t) qs) × (In (l, t) qs → In (l, t) ps)
+SamePairs ps qs = (l t : ℕ) → In (l, t) ps ↔ In (l, t) qs

@@ -1,4 +1,5 @@
--- The order of writing: at each step, among those that are ready, the one earliest in the input. Definitions alone.
+-- The order of writing: at each step, among those that are ready, the one earliest in the input. And what it decides: a table to start from.
+-- Definitions alone.
 use Prim.Native.Nat.{ℕ, zero, suc}
 use mathlib.Core.Bool.{Bool, true, false, not, _&&_, _||_}
 use mathlib.Core.List.{List, [], _∷_, _++_}
@@ -25,18 +26,18 @@ unfoldable pub least : (ℕ → Bool) → ℕ → ℕ → ℕ
 least p zero i = i
 least p (suc k) i = elim (p i) [ true ↦ i | false ↦ least p k (suc i) ]
 
--- what can come next after `done`, by a test of that: the earliest of n, and n where there is none
-unfoldable pub next : (List ℕ → ℕ → Bool) → ℕ → List ℕ → ℕ
-next may n done = least (may done) n 0
+-- what comes next after `done`: of those that are ready the one earliest in the input, and the circuit's size where none is
+unfoldable pub next : Circuit → List Pair → List ℕ → ℕ
+next C ps done = least (ready C ps done) (C .size) 0
 
 -- `done`, and after it what comes next, at most `fuel` times
-unfoldable pub writeOn : (List ℕ → ℕ → Bool) → ℕ → ℕ → List ℕ → List ℕ
-writeOn may n zero done = done
-writeOn may n (suc fuel) done = elim (ltb (next may n done) n) [ true ↦ writeOn may n fuel (done ++ next may n done ∷ []) | false ↦ done ]
+unfoldable pub writeOn : Circuit → List Pair → ℕ → List ℕ → List ℕ
+writeOn C ps zero done = done
+writeOn C ps (suc fuel) done = elim (ltb (next C ps done) (C .size)) [ true ↦ writeOn C ps fuel (done ++ next C ps done ∷ []) | false ↦ done ]
 
 -- the order of writing; it stops early where nothing is ready
 unfoldable pub schedule : Circuit → List Pair → List ℕ
-schedule C ps = writeOn (ready C ps) (C .size) (C .size) []
+schedule C ps = writeOn C ps (C .size) []
 
 -- whether the schedule has every instruction
 unfoldable pub complete : Circuit → List Pair → Bool
