@@ -33,7 +33,11 @@ use Rattle.orders.proofs.Rounds.{rounds-end, rounds-start}
 -- the wires of instruction i
 wiresOf : ℕ → List Pair → ℕ → List ℕ
 wiresOf w gates i =
-    pick (ltb i w) (i ∷ []) (pick (ltb i (w + length gates)) (getD gates (i - w) (0, 0) .0 ∷ getD gates (i - w) (0, 0) .1 ∷ []) ((i - (w + length gates)) ∷ []))
+    pick (ltb i w)
+    (i ∷ [])
+    (pick (ltb i (w + length gates))
+    (getD gates (i - w) (0, 0) .0 ∷ getD gates (i - w) (0, 0) .1 ∷ [])
+    ((i - (w + length gates)) ∷ []))
 
 worked : ℕ → List Pair → Circuit
 worked w gates = record {
@@ -234,7 +238,8 @@ module _ (w : ℕ) (gates : List Pair) (x : ℕ) where
   unfolding note
   note-off i s n = rw n
 
-  notes-commute : (i j : ℕ) → worked w gates .prec i j ≡ false → worked w gates .prec j i ≡ false → (s : List ℕ) → note j (note i s) ≡ note i (note j s)
+  notes-commute : (i j : ℕ) → worked w gates .prec i j ≡ false → worked w gates .prec j i ≡ false
+      → (s : List ℕ) → note j (note i s) ≡ note i (note j s)
   notes-commute i j e f s = elim (true-or-false (on i)) [
     | inr n ↦ ap (note j) (note-off i s n) ∙ sym (note-off i (note j s) n)
     | inl a ↦ elim (true-or-false (on j)) [

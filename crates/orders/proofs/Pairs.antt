@@ -44,7 +44,8 @@ module _ (C : Circuit) (law : Lawful C) where
           w,
           λ h.
               let g = taker-lender x (p ∷ ps) h in
-              let b = before-trans (C .measOf (g .0)) (C .resetOf x) (C .measOf x) σ (r .order .once) (r .honours (g .0) x (g .1)) (r .keeps _ _ (law .spans x w)) in
+              let a = r .honours (g .0) x (g .1) in
+              let b = before-trans (C .measOf (g .0)) (C .resetOf x) (C .measOf x) σ (r .order .once) a (r .keeps _ _ (law .spans x w)) in
               not-both (lenderAt (p ∷ ps) (C .measOf (g .0))) (lender-at (p ∷ ps) (g .0, x) (g .1))
               (f .before _ (subst (λ z. Before (C .measOf (g .0)) z σ) (sym (eqb-true _ _ (q .2))) b)),
         )

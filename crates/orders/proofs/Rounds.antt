@@ -14,10 +14,10 @@ use Rattle.basics.specs.Choice.{pick}
 use Rattle.basics.proofs.Tests.{not-both, refuted}
 use Rattle.orders.specs.Indices.{In, from}
 use Rattle.orders.specs.Runs.{Circuit, Lawful, Pair}
-use Rattle.orders.specs.Table.{Table, State, Start, Exact, Within, accept, accepted, fresh}
+use Rattle.orders.specs.Table.{Table, State, Start, Grown, Within, accept, accepted, fresh}
 use Rattle.orders.specs.Rounds.{Chooser, Chooses, rounds, NoneLeft, Ended, total, rowCount, yesCount}
 use Rattle.orders.proofs.Indices.{from-in}
-use Rattle.orders.proofs.Table.{accept-mark, offer-yes, accepted-exact, start-exact, exact-allowed, exact-within}
+use Rattle.orders.proofs.Table.{accept-mark, offer-yes, accepted-grown, start-exact, exact-allowed, exact-within}
 use Rattle.orders.proofs.Pairs.{allowed-few}
 
 -- where none is chosen the rounds are over; where a yes is, it is accepted and they go on
@@ -116,18 +116,25 @@ yes-fall w l t T h m =
 module _ (w : ℕ) (choose : Chooser) (rule : Chooses w choose) where
   -- ## On any table
 
+  -- how many yes marks are left
+  yes : State → ℕ
+  yes s = yesCount w (s .table)
+
   count-falls : (p : Pair) (s : State) → Within w (s .table) → s .table .mark (p .0) (p .1) ≡ true
-      → Within w (accepted p s .table) × (yesCount w (accepted p s .table) < yesCount w (s .table))
+      → Within w (accepted p s .table) × (yes (accepted p s) < yes s)
+  unfolding yes
   count-falls p s h m = (accept-within w p (s .table) h, yes-fall w (p .0) (p .1) (s .table) h m)
 
   -- THEOREM: on any table of width w, as many rounds as it has yes marks leave no yes.
   pub rounds-end : (s : State) → Within w (s .table) → (k : ℕ) → yesCount w (s .table) ≤ k → NoneLeft (rounds choose k s .table)
-  rounds-end s h k b = rounds-ended w choose rule (λ s. Within w (s .table)) (λ s. yesCount w (s .table)) (λ s h. h) count-falls k s h b .1
+  unfolding yes
+  rounds-end s h k b = rounds-ended w choose rule (λ s. Within w (s .table)) yes (λ s h. h) count-falls k s h b .1
 
   -- THEOREM: and further rounds change nothing.
-  pub rounds-stay : (s : State) → Within w (s .table) → (k : ℕ) → yesCount w (s .table) ≤ k → rounds choose k s ≡ rounds choose (yesCount w (s .table)) s
-  rounds-stay s h k b =
-      rounds-settled w choose rule (λ s. Within w (s .table)) (λ s. yesCount w (s .table)) (λ s h. h) count-falls (yesCount w (s .table)) k s h (omega arith) b
+  pub rounds-stay : (s : State) → Within w (s .table) → (k : ℕ) → yesCount w (s .table) ≤ k
+      → rounds choose k s ≡ rounds choose (yesCount w (s .table)) s
+  unfolding yes
+  rounds-stay s h k b = rounds-settled w choose rule (λ s. Within w (s .table)) yes (λ s h. h) count-falls (yes s) k s h (omega arith) b
 
 -- ## On a table grown from a circuit
 
@@ -136,31 +143,34 @@ module _ (C : Circuit) (law : Lawful C) (choose : Chooser) (rule : Chooses (C .w
   left : State → ℕ
   left s = (C .width - 1) - length (s .pairs)
 
-  left-falls : (p : Pair) (s : State) → Exact C (s .table) (s .pairs) → s .table .mark (p .0) (p .1) ≡ true
-      → Exact C (accepted p s .table) (accepted p s .pairs) × (left (accepted p s) < left s)
+  narrow : (s : State) → Grown C s → Within (C .width) (s .table)
+  narrow s = exact-within C law (s .table) (s .pairs)
+
+  left-falls : (p : Pair) (s : State) → Grown C s → s .table .mark (p .0) (p .1) ≡ true
+      → Grown C (accepted p s) × (left (accepted p s) < left s)
   unfolding left
   left-falls p s h m =
-      let e = accepted-exact C law p s h m in
+      let e = accepted-grown C law p s h m in
       let few : suc (length (s .pairs)) ≤ C .width - 1 = allowed-few C law (p ∷ s .pairs) (e .allowed) in
       (e, omega arith)
 
   -- THEOREM: on a table grown from a circuit, width - 1 rounds leave no yes, and no pair can be added to the list.
-  pub rounds-grown : (s : State) → Exact C (s .table) (s .pairs) → (k : ℕ) → C .width - 1 ≤ k → Ended C (rounds choose k s)
+  pub rounds-grown : (s : State) → Grown C s → (k : ℕ) → C .width - 1 ≤ k → Ended C (rounds choose k s)
   unfolding left
   rounds-grown s h k b =
-      let r = rounds-ended (C .width) choose rule (λ s. Exact C (s .table) (s .pairs)) left (λ s. exact-within C law (s .table) (s .pairs)) left-falls k s h (omega arith) in
+      let r = rounds-ended (C .width) choose rule (Grown C) left narrow left-falls k s h (omega arith) in
       record {
-        exact = r .0;
+        grown = r .0;
         none-left = r .1;
         maximal = record { allowed = r .0 .allowed; no-more = λ l t a. not-both _ (exact-allowed C law _ _ (r .0) l t .1 a) (r .1 l t) };
         few = allowed-few C law _ (r .0 .allowed);
       }
 
   -- THEOREM: and further rounds change nothing.
-  pub rounds-grown-stay : (s : State) → Exact C (s .table) (s .pairs) → (k : ℕ) → C .width - 1 ≤ k → rounds choose k s ≡ rounds choose (C .width - 1) s
+  pub rounds-grown-stay : (s : State) → Grown C s → (k : ℕ) → C .width - 1 ≤ k → rounds choose k s ≡ rounds choose (C .width - 1) s
   unfolding left
   rounds-grown-stay s h k b =
-      rounds-settled (C .width) choose rule (λ s. Exact C (s .table) (s .pairs)) left (λ s. exact-within C law (s .table) (s .pairs)) left-falls (C .width - 1) k s h (omega arith) b
+      rounds-settled (C .width) choose rule (Grown C) left narrow left-falls (C .width - 1) k s h (omega arith) b
 
   -- THEOREM: from the start table, width - 1 rounds choose a list to which no pair can be added.
   pub rounds-start : (T : Table) → Start C T → Ended C (rounds choose (C .width - 1) (fresh T))

@@ -11,7 +11,8 @@ use Rattle.basics.proofs.Tests.{true-or-false, not-both, either, neither}
 use Rattle.orders.specs.Indices.{In, Before, Once, any, inputOrder}
 use Rattle.orders.specs.Runs.{Circuit, Lawful, Pair, Run, Runs, BetweenWires, SamePairs}
 use Rattle.orders.specs.Graph.{arrow, Leads, here, step, Clear, Acyclic}
-use Rattle.orders.proofs.Indices.{before-irrefl, in-left, in-right, before-right-part, before-across, put-between, in-put, put-before, put-once, any-in, any-which, input-order, input-before}
+use Rattle.orders.proofs.Indices.{before-irrefl, in-left, in-right, before-right-part, before-across}
+use Rattle.orders.proofs.Indices.{put-between, in-put, put-before, put-once, any-in, any-which, input-order, input-before}
 use Rattle.orders.proofs.Graph.{leads-more, arrow-prec, arrow-pair, arrow-more, reach-before}
 
 -- ## Fewer pairs
@@ -82,7 +83,9 @@ parted e m (x ∷ xs) o = go (parted e m xs (o .1))
         once = put-once (put-between x (r .leading) (r .others)) (λ h. o .0 (r .only x h)) (r .once);
         kept = λ i j h b. elim b [
           | inl k ↦ elim (r .members j (k .1)) [
-            | inl d ↦ absurd (not-both (any (e x) (r .leading)) (any-in (e x) j (r .leading) d (subst (λ z. e z j ≡ true) (k .0) h)) (neither (eqb x m) _ f .1))
+            | inl d ↦ absurd (not-both (any (e x) (r .leading))
+                (any-in (e x) j (r .leading) d (subst (λ z. e z j ≡ true) (k .0) h))
+                (neither (eqb x m) _ f .1))
             | inr w ↦ before-right-part i j (r .leading) (x ∷ r .others) (inl (k .0, w))
           ]
           | inr k ↦ put-before (put-between x (r .leading) (r .others)) i j (r .kept i j h k)

@@ -2,8 +2,8 @@
 -- It is complete only then, so it also decides. With no pairs it is the input order, and it depends on the pairs as a set. Assumes nothing.
 use Prim.Native.Nat.{ℕ, zero, suc, _+_, _≤_, _<_}
 use mathlib.Core.Path.{_≡_, refl, sym, _∙_, ap, subst, fun-ext}
-use mathlib.Core.Logic.{_⊎_, inl, inr, _↔_, Iff·trans}
-use mathlib.Core.Bool.{Bool, true, false, not, _&&_, _||_}
+use mathlib.Core.Logic.{inl, inr, _↔_, Iff·trans}
+use mathlib.Core.Bool.{true, false, not, _&&_, _||_}
 use mathlib.Core.List.{List, [], _∷_, _++_}
 use native.Mathlib.Omega.{arith}
 use lib.ListN.{length, length-append}
@@ -15,7 +15,8 @@ use Rattle.orders.specs.Runs.{Circuit, Lawful, Pair, Run, Runs, BetweenW
 use Rattle.orders.specs.Graph.{arrow, Clear}
 use Rattle.orders.specs.Table.{Start}
 use Rattle.orders.specs.Schedule.{earlierWritten, lenderWritten, ready, least, next, writeOn, schedule, complete, startTable}
-use Rattle.orders.proofs.Indices.{first-or-none, before-right, before-across, put-last, in-put, put-before, put-once, every-at, every-from, stands-in, in-stands, from-in, in-from, from-last, full-length, order-length, once-full}
+use Rattle.orders.proofs.Indices.{first-or-none, before-right, before-across, put-last, in-put, put-before, put-once}
+use Rattle.orders.proofs.Indices.{every-at, every-from, stands-in, in-stands, from-in, in-from, from-last, full-length, order-length, once-full}
 use Rattle.orders.proofs.Least.{least-miss, least-hit, least-end, least-is}
 use Rattle.orders.proofs.Graph.{arrow-prec, arrow-pair, arrow-cases, run-arrow, arrow-run}
 use Rattle.orders.proofs.Runs.{runs-none, runs-added}
@@ -26,7 +27,9 @@ pub lender-written : (C : Circuit) (ps : List Pair) (done : List ℕ) (j : ℕ)
     → (lenderWritten C ps done j ≡ true) ↔ ((p : Pair) → In p ps → j ≡ C .resetOf (p .1) → In (C .measOf (p .0)) done)
 unfolding lenderWritten
 lender-written C ps done j = (
-  λ h p k e. stands-in _ done (implied _ _ (every-at (λ (p : Pair). not (eqb j (C .resetOf (p .1))) || stands (C .measOf (p .0)) done) ps h p k) (eq-eqb j _ e)),
+  λ h p k e.
+      let a = every-at (λ (p : Pair). not (eqb j (C .resetOf (p .1))) || stands (C .measOf (p .0)) done) ps h p k in
+      stands-in _ done (implied _ _ a (eq-eqb j _ e)),
   λ h. every-from _ ps (λ p k. implies _ _ (λ e. in-stands _ done (h p k (eqb-true j _ e)))),
 )
 
@@ -36,7 +39,8 @@ module _ (C : Circuit) (law : Lawful C) where
   earlier-written done j = (
     λ h i k.
         let l = law .upward i j k in
-        stands-in i done (implied (C .prec i j) _ (every-at (λ i. not (C .prec i j) || stands i done) (from 0 j) h i (from-in 0 j i (omega arith) (omega arith))) k),
+        let a = every-at (λ i. not (C .prec i j) || stands i done) (from 0 j) h i (from-in 0 j i (omega arith) (omega arith)) in
+        stands-in i done (implied (C .prec i j) _ a k),
     λ h. every-from _ (from 0 j) (λ i k. implies (C .prec i j) _ (λ e. in-stands i done (h i e))),
   )
 
@@ -210,7 +214,9 @@ module _ (C : Circuit) (law : Lawful C) where
   writeOn-input (suc f) k e =
       let l : k < C .size = omega arith in
       let q : next C [] (from 0 k) ≡ 0 + k = omega (arith, next-input k l) in
-      writeOn-more C [] (from 0 k) f (omega arith) ∙ ap (writeOn C [] f) (ap (λ z. from 0 k ++ z ∷ []) q ∙ from-last 0 k) ∙ writeOn-input f (suc k) (omega arith)
+      writeOn-more C [] (from 0 k) f (omega arith)
+      ∙ ap (writeOn C [] f) (ap (λ z. from 0 k ++ z ∷ []) q ∙ from-last 0 k)
+      ∙ writeOn-input f (suc k) (omega arith)
 
   -- THEOREM: with no pairs the schedule is the input order.
   pub schedule-none : schedule C [] ≡ inputOrder (C .size)

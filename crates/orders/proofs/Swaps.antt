@@ -9,8 +9,9 @@ use mathlib.Core.List.{List, [], _∷_, _++_}
 use Rattle.basics.proofs.Tests.{not-both, refuted}
 use Rattle.orders.specs.Indices.{In, Before, Once, inputOrder}
 use Rattle.orders.specs.Runs.{Circuit, Lawful, Pair, Run}
-use Rattle.orders.specs.Swaps.{Exchanged, here, later, Reached, same, swap, effect}
-use Rattle.orders.proofs.Indices.{before-left, before-right, before-trans, before-irrefl, Put, first, further, put-out, put-in, put-there, in-put, before-put, once-put}
+use Rattle.orders.specs.Swaps.{Exchanged, here, later, Reached, same, swap, Commute, effect}
+use Rattle.orders.proofs.Indices.{before-left, before-right, before-trans, before-irrefl}
+use Rattle.orders.proofs.Indices.{Put, first, further, put-out, put-in, put-there, in-put, before-put, once-put}
 use Rattle.orders.proofs.Runs.{run-fewer, input-run}
 
 -- ## Reached lists
@@ -135,15 +136,11 @@ module _ (C : Circuit) where
   -- ## Meaning
 
   -- an exchange keeps what exchanging such neighbours keeps, and so do many
-  exchanged-meaning {ℓ} : {M : Type ℓ} (meaning : List ℕ → M)
-      → ((front back : List ℕ) (i j : ℕ) → C .prec i j ≡ false → C .prec j i ≡ false → meaning (front ++ i ∷ j ∷ back) ≡ meaning (front ++ j ∷ i ∷ back))
-      → {xs ys : List ℕ} → Exchanged C xs ys → meaning xs ≡ meaning ys
+  exchanged-meaning {ℓ} : {M : Type ℓ} (meaning : List ℕ → M) → Commute C meaning → {xs ys : List ℕ} → Exchanged C xs ys → meaning xs ≡ meaning ys
   exchanged-meaning meaning commute (here {i = i} {j = j} {rest = rest} e f) = commute [] rest i j e f
   exchanged-meaning meaning commute (later {x = x} q) = exchanged-meaning (λ zs. meaning (x ∷ zs)) (λ front. commute (x ∷ front)) q
 
-  reached-meaning {ℓ} : {M : Type ℓ} (meaning : List ℕ → M)
-      → ((front back : List ℕ) (i j : ℕ) → C .prec i j ≡ false → C .prec j i ≡ false → meaning (front ++ i ∷ j ∷ back) ≡ meaning (front ++ j ∷ i ∷ back))
-      → {xs ys : List ℕ} → Reached C xs ys → meaning xs ≡ meaning ys
+  reached-meaning {ℓ} : {M : Type ℓ} (meaning : List ℕ → M) → Commute C meaning → {xs ys : List ℕ} → Reached C xs ys → meaning xs ≡ meaning ys
   reached-meaning meaning commute same = refl
   reached-meaning meaning commute (swap q p) = exchanged-meaning meaning commute q ∙ reached-meaning meaning commute p
 
@@ -162,9 +159,7 @@ module _ (C : Circuit) (law : Lawful C) where
 
   -- THEOREM: whatever lists of instructions mean, if exchanging neighbours that need not keep their order keeps the meaning, then every
   -- run means what the input meant.
-  pub meaning-kept {ℓ} : {M : Type ℓ} (meaning : List ℕ → M)
-      → ((front back : List ℕ) (i j : ℕ) → C .prec i j ≡ false → C .prec j i ≡ false → meaning (front ++ i ∷ j ∷ back) ≡ meaning (front ++ j ∷ i ∷ back))
-      → (ps : List Pair) (σ : List ℕ) → Run C ps σ → meaning (inputOrder (C .size)) ≡ meaning σ
+  pub meaning-kept {ℓ} : {M : Type ℓ} (meaning : List ℕ → M) → Commute C meaning → (ps : List Pair) (σ : List ℕ) → Run C ps σ → meaning (inputOrder (C .size)) ≡ meaning σ
   meaning-kept meaning commute ps σ r = reached-meaning C meaning commute (run-reached ps σ r)
 
   -- THEOREM: in particular, where each instruction does something to a state, and those that need not keep their order commute, every run

@@ -11,7 +11,7 @@ use borrow.Author.Tests.{eqb-true, eq-eqb, not-true}
 use Rattle.basics.proofs.Tests.{not-both, refuted, not-of-false, both, and-intro, either, or-left, or-right, neither, or-neither, true-or-false}
 use Rattle.orders.specs.Runs.{Circuit, Lawful, Pair, Runs, Allowed}
 use Rattle.orders.specs.Graph.{Reach, Clear}
-use Rattle.orders.specs.Table.{Table, State, Start, Open, Says, Exact, ExactByReach, accept, accepted, fresh, offer, offers, Within}
+use Rattle.orders.specs.Table.{Table, State, Start, Open, Says, Exact, ExactByReach, Grown, accept, accepted, fresh, offer, offers, Within}
 use Rattle.orders.proofs.Graph.{reach-added}
 use Rattle.orders.proofs.Runs.{runs-none, runs-added, runs-self}
 
@@ -52,16 +52,18 @@ offers-keep Inv keep (p ∷ os) s h =
       | inr f ↦ subst Inv (sym (offer-no p s f)) h
     ])
 
+opened : {C : Circuit} {T : Table} {May : ℕ → ℕ → Type 0} {l t : ℕ}
+    → C .wire l ≡ true → C .wire t ≡ true → T .lent l ≡ false → T .taken t ≡ false → May l t → Open C T May l t
+opened a b c d m = record { lender = a; taker = b; not-lent = c; not-taken = d; may = m }
+
 -- where two say the same of wires, a table that says the one says the other
 says-alike : (C : Circuit) (T : Table) (ps : List Pair) (May May′ : ℕ → ℕ → Type 0)
     → ((l t : ℕ) → C .wire l ≡ true → C .wire t ≡ true → May l t ↔ May′ l t) → Says C T ps May → Says C T ps May′
 says-alike C T ps May May′ alike h = record {
   allowed = h .allowed;
   marks = λ l t. (
-    (λ m. let o = h .marks l t .0 m in
-        record { lender = o .lender; taker = o .taker; not-lent = o .not-lent; not-taken = o .not-taken; may = alike l t (o .lender) (o .taker) .0 (o .may) }),
-    λ o. h .marks l t .1
-        (record { lender = o .lender; taker = o .taker; not-lent = o .not-lent; not-taken = o .not-taken; may = alike l t (o .lender) (o .taker) .1 (o .may) }),
+    (λ m. let o = h .marks l t .0 m in opened (o .lender) (o .taker) (o .not-lent) (o .not-taken) (alike l t (o .lender) (o .taker) .0 (o .may))),
+    λ o. h .marks l t .1 (opened (o .lender) (o .taker) (o .not-lent) (o .not-taken) (alike l t (o .lender) (o .taker) .1 (o .may))),
   );
   lenders = h .lenders;
   takers = h .takers;
@@ -105,7 +107,24 @@ module _ (C : Circuit) (law : Lawful C) where
           ];
         }
 
-    -- and back: were (l, v) and (u, t) both no, v's reset would lead to l's measurement and t's to u's, and the new pair would join the two
+    -- where the way stays clear one of (l, v) and (u, t) is yes: were both no, v's reset would lead to l's measurement and t's reset to u's,
+    -- and the new pair would join the two
+    one-yes : (u v : ℕ) → Open C T (Clear C ((l, t) ∷ ps)) u v → (T .mark l v || T .mark u t) ≡ true
+    one-yes u v o = elim (true-or-false (T .mark l v || T .mark u t)) [
+      | inl y ↦ y
+      | inr n ↦ absurd (
+          let no = neither (T .mark l v) (T .mark u t) n in
+          not-both (T .mark l v)
+          (h .marks l v .1 (opened (given .lender) (o .taker) (given .not-lent) (o .not-taken) (λ x.
+          not-both (T .mark u t)
+          (h .marks u t .1 (opened (o .lender) (given .taker) (o .not-lent) (given .not-taken) (λ y.
+          o .may (reach-added C l t ps (C .resetOf v) (C .measOf u) .1 (inr (x, y))))))
+          (no .1))))
+          (no .0)
+          )
+    ]
+
+    -- and what is open is left
     open-left : (u v : ℕ) → Open C (accept (l, t) T) (Clear C ((l, t) ∷ ps)) u v → accept (l, t) T .mark u v ≡ true
     unfolding accept
     open-left u v o =
@@ -114,26 +133,9 @@ module _ (C : Circuit) (law : Lawful C) where
         accept-mark l t T u v .1 (
           a .0,
           b .0,
-          h .marks u v .1 (record { lender = o .lender; taker = o .taker; not-lent = a .1; not-taken = b .1; may = λ r. o .may (added .1 (inl r)) }),
-          elim (true-or-false (T .mark l v || T .mark u t)) [
-            | inl y ↦ y
-            | inr n ↦ absurd (not-both (T .mark l v)
-                (h .marks l v .1 (record {
-                  lender = given .lender;
-                  taker = o .taker;
-                  not-lent = given .not-lent;
-                  not-taken = b .1;
-                  may = λ x. not-both (T .mark u t)
-                      (h .marks u t .1 (record { lender = o .lender; taker = given .taker; not-lent = a .1; not-taken = given .not-taken; may = λ y. o .may (added .1 (inr (x, y))) }))
-                      (neither (T .mark l v) (T .mark u t) n .1);
-                }))
-                (neither (T .mark l v) (T .mark u t) n .0))
-          ],
+          h .marks u v .1 (opened (o .lender) (o .taker) (a .1) (b .1) (λ r. o .may (reach-added C l t ps (C .resetOf v) (C .measOf u) .1 (inl r)))),
+          one-yes u v (opened (o .lender) (o .taker) (a .1) (b .1) (o .may)),
         )
-      where
-        added : Reach C ((l, t) ∷ ps) (C .resetOf v) (C .measOf u)
-            ↔ (Reach C ps (C .resetOf v) (C .measOf u) ⊎ (Reach C ps (C .resetOf v) (C .measOf l) × Reach C ps (C .resetOf t) (C .measOf u)))
-        added = reach-added C l t ps (C .resetOf v) (C .measOf u)
 
     accept-says : ExactByReach C (accept (l, t) T) ((l, t) ∷ ps)
     unfolding accept
@@ -156,7 +158,7 @@ module _ (C : Circuit) (law : Lawful C) where
     allowed = record { between = λ l t h. absurd h; lend-once = tt; take-once = tt; runs = runs-none C law };
     marks = λ l t. (
       (λ m. let r = s .marks l t .0 m in
-          record { lender = r .0; taker = r .1; not-lent = s .none-lent l (r .0); not-taken = s .none-taken t (r .1); may = r .2 }),
+          opened (r .0) (r .1) (s .none-lent l (r .0)) (s .none-taken t (r .1)) (r .2)),
       λ o. s .marks l t .1 (o .lender, o .taker, o .may),
     );
     lenders = λ x w. (λ k. not-both (T .lent x) k (s .none-lent x w), λ k. absurd k);
@@ -173,13 +175,12 @@ module _ (C : Circuit) (law : Lawful C) where
   exact-by-reach T ps h = says-alike C T ps _ _ (λ l t a b. runs-added C law l t ps a b (h .allowed .runs)) h
 
   -- an accepted pair leaves an exact table
-  pub accepted-exact : (p : Pair) (s : State) → Exact C (s .table) (s .pairs) → s .table .mark (p .0) (p .1) ≡ true
-      → Exact C (accepted p s .table) (accepted p s .pairs)
-  accepted-exact p s h m = by-reach-exact _ _ (accept-says (p .0) (p .1) (s .table) (s .pairs) (exact-by-reach _ _ h) m)
+  pub accepted-grown : (p : Pair) (s : State) → Grown C s → s .table .mark (p .0) (p .1) ≡ true → Grown C (accepted p s)
+  accepted-grown p s h m = by-reach-exact _ _ (accept-says (p .0) (p .1) (s .table) (s .pairs) (exact-by-reach _ _ h) m)
 
   -- THEOREM: from an exact table, after any offers of any numbers at all, refused ones among them, the table is exact.
-  pub offers-exact : (os : List Pair) (s : State) → Exact C (s .table) (s .pairs) → Exact C (offers os s .table) (offers os s .pairs)
-  offers-exact = offers-keep (λ s. Exact C (s .table) (s .pairs)) accepted-exact
+  pub offers-grown : (os : List Pair) (s : State) → Grown C s → Grown C (offers os s)
+  offers-grown = offers-keep (Grown C) accepted-grown
 
   pub start-exact : (T : Table) → Start C T → Exact C T []
   start-exact T s = by-reach-exact T [] (start-says T s)
@@ -187,7 +188,7 @@ module _ (C : Circuit) (law : Lawful C) where
   -- THEOREM (demand 3): from the start table, after any offers, a mark is yes exactly between wires, where the lender has not lent, the taker
   -- has not taken, and the accepted pairs run with this one added.
   pub demand-three : (T : Table) → Start C T → (os : List Pair) → Exact C (offers os (fresh T) .table) (offers os (fresh T) .pairs)
-  demand-three T s os = offers-exact os (fresh T) (start-exact T s)
+  demand-three T s os = offers-grown os (fresh T) (start-exact T s)
 
   -- THEOREM: the same by the graph: where the taker's reset does not lead to the lender's measurement.
   pub demand-three-by-reach : (T : Table) → Start C T → (os : List Pair) → ExactByReach C (offers os (fresh T) .table) (offers os (fresh T) .pairs)
@@ -211,10 +212,11 @@ module _ (C : Circuit) (law : Lawful C) where
   )
 
   -- a no between wires that are not used is a loop: the pairs do not run with this one
-  pub exact-loop : (T : Table) (ps : List Pair) → Exact C T ps → (l t : ℕ) → C .wire l ≡ true → C .wire t ≡ true → T .lent l ≡ false → T .taken t ≡ false
+  pub exact-loop : (T : Table) (ps : List Pair) → Exact C T ps → (l t : ℕ)
+      → C .wire l ≡ true → C .wire t ≡ true → T .lent l ≡ false → T .taken t ≡ false
       → (T .mark l t ≡ false) ↔ (¬ Runs C ((l, t) ∷ ps))
   exact-loop T ps h l t wl wt a b = (
-    λ m r. not-both (T .mark l t) (h .marks l t .1 (record { lender = wl; taker = wt; not-lent = a; not-taken = b; may = r })) m,
+    λ m r. not-both (T .mark l t) (h .marks l t .1 (opened (wl) (wt) (a) (b) (r))) m,
     λ n. refuted (T .mark l t) (λ m. n (h .marks l t .0 m .may)),
   )
 

@@ -8,7 +8,7 @@ use lib.ListN.{length}
 use Rattle.basics.specs.Choice.{pick}
 use Rattle.orders.specs.Indices.{from}
 use Rattle.orders.specs.Runs.{Circuit, Pair, Allowed}
-use Rattle.orders.specs.Table.{Table, State, Exact, Within, offer}
+use Rattle.orders.specs.Table.{Table, State, Grown, Within, offer}
 
 -- a rule of choice: from a table, a pair or none
 abbrev pub Chooser : Type 0
@@ -33,9 +33,9 @@ pub record Maximal (C : Circuit) (ps : List Pair) : Type 0 where
   pub allowed : Allowed C ps
   pub no-more : (l t : ℕ) → ¬ Allowed C ((l, t) ∷ ps)
 
--- Where the rounds on a circuit's table end: the table is exact, no yes is left, no pair can be added, and there are at most width - 1.
+-- Where the rounds on a table grown from a circuit end: it is still one, no yes is left, no pair can be added, and there are at most width - 1.
 pub record Ended (C : Circuit) (s : State) : Type 0 where
-  pub exact : Exact C (s .table) (s .pairs)
+  pub grown : Grown C s
   pub none-left : NoneLeft (s .table)
   pub maximal : Maximal C (s .pairs)
   pub few : length (s .pairs) ≤ C .width - 1

@@ -2,7 +2,7 @@
 use Prim.Native.Nat.{ℕ}
 use mathlib.Core.Path.{_≡_}
 use mathlib.Core.Bool.{false}
-use mathlib.Core.List.{List, [], _∷_}
+use mathlib.Core.List.{List, [], _∷_, _++_}
 use Rattle.orders.specs.Runs.{Circuit}
 
 -- two neighbours are exchanged, of which neither must come before the other
@@ -14,6 +14,11 @@ pub data Exchanged (C : Circuit) : List ℕ → List ℕ → Type 0 where
 pub data Reached (C : Circuit) : List ℕ → List ℕ → Type 0 where
   same : {xs : List ℕ} → Reached C xs xs
   swap : {xs ys zs : List ℕ} → Exchanged C xs ys → Reached C ys zs → Reached C xs zs
+
+-- neighbours that need not keep their order commute in what a list means
+abbrev pub Commute {ℓ} : {M : Type ℓ} → Circuit → (List ℕ → M) → Type ℓ
+Commute C meaning =
+    (front back : List ℕ) (i j : ℕ) → C .prec i j ≡ false → C .prec j i ≡ false → meaning (front ++ i ∷ j ∷ back) ≡ meaning (front ++ j ∷ i ∷ back)
 
 -- what the instructions of a list do to a state, one after the other
 unfoldable pub effect {ℓ} : {S : Type ℓ} → (ℕ → S → S) → List ℕ → S → S

@@ -77,6 +77,10 @@ Exact C T ps = Says C T ps (λ l t. Runs C ((l, t) ∷ ps))
 abbrev pub ExactByReach : Circuit → Table → List Pair → Type 0
 ExactByReach C T ps = Says C T ps (Clear C ps)
 
+-- a table grown from a circuit: it is exact for the pairs accepted so far
+abbrev pub Grown : Circuit → State → Type 0
+Grown C s = Exact C (s .table) (s .pairs)
+
 -- a table of width w: yes marks are below it only
 abbrev pub Within : ℕ → Table → Type 0
 Within w T = (l t : ℕ) → T .mark l t ≡ true → (l < w) × (t < w)
