@@ -15,7 +15,7 @@ use Rattle.basics.proofs.Tests.{true-or-false, not-both, refuted, both, and-int
 use Rattle.orders.specs.Indices.{any, every, stands, from, inputOrder}
 use Rattle.orders.specs.Runs.{Circuit, Lawful, Pair, Runs, BetweenWires, Allowed, SamePairs}
 use Rattle.orders.specs.Graph.{lends, arrow, here, step, Reach, Cycle, Acyclic}
-use Rattle.orders.specs.Table.{Table, State, Exact, ExactByReach, Within, accept, accepted, fresh, offer, offers}
+use Rattle.orders.specs.Table.{Table, State, Exact, ExactByReach, Within, accept, accepted, fresh, offered, offer, offers}
 use Rattle.orders.specs.Schedule.{earlierWritten, lenderWritten, ready, least, next, writeOn, schedule, complete, startTable}
 use Rattle.orders.specs.Swaps.{Reached, effect}
 use Rattle.orders.specs.Rounds.{Chooser, Chooses, rounds, NoneLeft, Maximal, total, rowCount, yesCount}
@@ -179,7 +179,7 @@ unfolding startTable complete schedule writeOn next least ready earlierWritten l
 start-P11 = refl
 
 after-P11 : offers ((0, 2) ∷ []) (fresh (startTable P11)) ≡ accepted (0, 2) (fresh (startTable P11))
-unfolding offers offer startTable complete schedule writeOn next least ready earlierWritten lenderWritten every stands any from P11 worked wiresOf
+unfolding offers offer offered startTable complete schedule writeOn next least ready earlierWritten lenderWritten every stands any from P11 worked wiresOf
 after-P11 = refl
 
 no-P11 : accept (0, 2) (startTable P11) .mark 3 1 ≡ false
@@ -205,7 +205,7 @@ some-offers : List Pair
 some-offers = (9, 1) ∷ (2, 2) ∷ (0, 2) ∷ (3, 1) ∷ (0, 3) ∷ (1, 2) ∷ (1, 3) ∷ []
 
 taken-P11 : offers some-offers (fresh (startTable P11)) .pairs ≡ (1, 3) ∷ (0, 2) ∷ []
-unfolding some-offers offers offer accept startTable complete schedule writeOn next least ready earlierWritten lenderWritten every stands any from P11 worked wiresOf
+unfolding some-offers offers offer offered accept startTable complete schedule writeOn next least ready earlierWritten lenderWritten every stands any from P11 worked wiresOf
 taken-P11 = refl
 
 -- and the marks are right, by the graph too
@@ -299,7 +299,7 @@ first-yes w = record { only-yes = λ T h l t e. found T l t _ refl e; none-left 
 
 -- P5's list: 0 to 1, then 1 to 2 (the latest stands first)
 chosen-B : rounds (firstYes 3) 2 (fresh (startTable B)) .pairs ≡ (1, 2) ∷ (0, 1) ∷ []
-unfolding rounds firstYes lenderOf takerOf offer accept startTable complete schedule writeOn next least ready earlierWritten lenderWritten every stands any from B worked wiresOf
+unfolding rounds firstYes lenderOf takerOf offer offered accept startTable complete schedule writeOn next least ready earlierWritten lenderWritten every stands any from B worked wiresOf
 chosen-B = refl
 
 -- no pair can be added to it

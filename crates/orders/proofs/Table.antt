@@ -11,7 +11,7 @@ use borrow.Author.Tests.{eqb-true, eq-eqb, not-true}
 use Rattle.basics.proofs.Tests.{not-both, refuted, not-of-false, both, and-intro, either, or-left, or-right, neither, or-neither, true-or-false}
 use Rattle.orders.specs.Runs.{Circuit, Lawful, Pair, Runs, Allowed}
 use Rattle.orders.specs.Graph.{Reach, Clear}
-use Rattle.orders.specs.Table.{Table, State, Start, Open, Says, Exact, ExactByReach, Grown, accept, accepted, fresh, offer, offers, Within}
+use Rattle.orders.specs.Table.{Table, State, Start, Open, Says, Exact, ExactByReach, Grown, accept, accepted, fresh, offered, offer, offers, Within}
 use Rattle.orders.proofs.Graph.{reach-added}
 use Rattle.orders.proofs.Runs.{runs-none, runs-added, runs-self}
 
@@ -34,12 +34,12 @@ accept-mark l t T u v = (
 )
 
 pub offer-yes : (p : Pair) (s : State) → s .table .mark (p .0) (p .1) ≡ true → offer p s ≡ accepted p s
-unfolding offer
-offer-yes p s e = rw (offer, e)
+unfolding offer offered
+offer-yes p s e = rw e
 
 pub offer-no : (p : Pair) (s : State) → s .table .mark (p .0) (p .1) ≡ false → offer p s ≡ s
-unfolding offer
-offer-no p s e = rw (offer, e)
+unfolding offer offered
+offer-no p s e = rw e
 
 -- what every accepted pair keeps, any offers keep
 pub offers-keep : (Inv : State → Type 0) → ((p : Pair) (s : State) → Inv s → s .table .mark (p .0) (p .1) ≡ true → Inv (accepted p s))

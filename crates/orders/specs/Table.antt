@@ -25,6 +25,10 @@ accept p T = record {
   taken = λ v. eqb v (p .1) || T .taken v;
 }
 
+-- An offer on a table: it is taken exactly when its mark is yes; refused, it hands the same table back.
+unfoldable pub offered : Pair → Table → Table
+offered p T = pick (T .mark (p .0) (p .1)) (accept p T) T
+
 -- a table and the pairs accepted so far, the latest first
 pub record State : Type 0 where
   pub table : Table
@@ -38,9 +42,9 @@ fresh T = record { table = T; pairs = [] }
 abbrev pub accepted : Pair → State → State
 accepted p s = record { table = accept p (s .table); pairs = p ∷ s .pairs }
 
--- an offer is taken exactly when its mark is yes; one that is refused hands the same table back
+-- an offer, with the list of what was accepted
 unfoldable pub offer : Pair → State → State
-offer p s = pick (s .table .mark (p .0) (p .1)) (accepted p s) s
+offer p s = record { table = offered p (s .table); pairs = pick (s .table .mark (p .0) (p .1)) (p ∷ s .pairs) (s .pairs) }
 
 -- one offer after the other
 unfoldable pub offers : List Pair → State → State
