@@ -13,18 +13,18 @@ use borrow.Author.Tests.{ltb-true, ltb-false, lt-ltb, le-ltb}
 use Rattle.basics.specs.Choice.{pick}
 use Rattle.basics.proofs.Tests.{true-or-false, not-both, refuted, both, and-intro, below-or-not}
 use Rattle.orders.specs.Indices.{any, every, stands, from, inputOrder}
-use Rattle.orders.specs.Runs.{Circuit, Lawful, Pair, Runs, BetweenWires, Allowed, SamePairs}
+use Rattle.orders.specs.Runs.{Circuit, Lawful, Pair, Run, Runs, BetweenWires, Allowed, SamePairs}
 use Rattle.orders.specs.Graph.{lends, arrow, here, step, Reach, Cycle, Acyclic}
 use Rattle.orders.specs.Table.{Table, State, Exact, ExactByReach, Within, accept, accepted, fresh, offered, offer, offers}
 use Rattle.orders.specs.Schedule.{earlierWritten, lenderWritten, ready, least, next, writeOn, schedule, complete, startTable}
-use Rattle.orders.specs.Swaps.{Reached, effect}
+use Rattle.orders.specs.Swaps.{neighbours, Reached, same, swap, effect}
 use Rattle.orders.specs.Rounds.{Chooser, Chooses, rounds, NoneLeft, Maximal, total, rowCount, yesCount}
 use Rattle.orders.proofs.Indices.{any-in, every-at, stands-in, in-stands}
 use Rattle.orders.proofs.Runs.{runs-exactly-acyclic, runs-added, runs-dropped, runs-same}
 use Rattle.orders.proofs.Table.{demand-three, demand-three-by-reach, exact-loop}
 use Rattle.orders.proofs.Least.{least-hit, least-miss}
 use Rattle.orders.proofs.Schedule.{schedule-runs, schedule-complete, complete-exactly, schedule-none, schedule-same, start-table}
-use Rattle.orders.proofs.Swaps.{run-reached, effect-kept}
+use Rattle.orders.proofs.Swaps.{swaps-exactly, run-reached, effect-kept}
 use Rattle.orders.proofs.Pairs.{allowed-few}
 use Rattle.orders.proofs.Rounds.{rounds-end, rounds-start}
 
@@ -218,6 +218,11 @@ offered-P11 = demand-three-by-reach P11 lawful-P11 (startTable P11) (start-table
 swapped-A : Reached A (inputOrder 8) (0 ∷ 1 ∷ 3 ∷ 5 ∷ 2 ∷ 4 ∷ 6 ∷ 7 ∷ [])
 unfolding A worked
 swapped-A = subst (Reached A (inputOrder 8)) order-A (run-reached A lawful-A ((0, 2) ∷ []) (schedule A ((0, 2) ∷ [])) (schedule-runs A lawful-A ((0, 2) ∷ []) runs-A))
+
+-- B's first two resets need not keep their order: exchanged, they leave an order that keeps the precedence
+run-B : Run B [] (1 ∷ 0 ∷ 2 ∷ 3 ∷ 4 ∷ 5 ∷ [])
+unfolding from B worked wiresOf stands any
+run-B = swaps-exactly B lawful-B (1 ∷ 0 ∷ 2 ∷ 3 ∷ 4 ∷ 5 ∷ []) .1 (swap (neighbours refl refl) same)
 
 -- An effect: the instructions of wire x are noted down. Two that need not keep their order are not both on it, or are the same.
 module _ (w : ℕ) (gates : List Pair) (x : ℕ) where

@@ -9,7 +9,7 @@ use mathlib.Core.List.{List, [], _∷_, _++_}
 use Rattle.basics.proofs.Tests.{not-both, refuted}
 use Rattle.orders.specs.Indices.{In, Before, Once, inputOrder}
 use Rattle.orders.specs.Runs.{Circuit, Lawful, Pair, Run}
-use Rattle.orders.specs.Swaps.{Exchanged, here, later, Reached, same, swap, Commute, effect}
+use Rattle.orders.specs.Swaps.{Exchanged, neighbours, later, Reached, same, swap, Commute, effect}
 use Rattle.orders.proofs.Indices.{before-left, before-right, before-trans, before-irrefl}
 use Rattle.orders.proofs.Indices.{Put, first, further, put-out, put-in, put-there, in-put, before-put, once-put}
 use Rattle.orders.proofs.Runs.{run-fewer, input-run}
@@ -50,7 +50,7 @@ module _ (C : Circuit) where
   fronted first free = same
   fronted {a} (further {x = x} {ys = ys} p) free =
       let r = free x (inl (refl, put-there p)) in
-      reached-trans (reached-later x (fronted p (λ f b. free f (inr b)))) (swap (here (r .0) (r .1)) same)
+      reached-trans (reached-later x (fronted p (λ f b. free f (inr b)))) (swap (neighbours (r .0) (r .1)) same)
 
   -- two lists of the same members that keep the precedence are reached from each other
   reached-between : (ys xs : List ℕ) → Kept xs → Kept ys → ((a : ℕ) → In a xs → In a ys) → ((a : ℕ) → In a ys → In a xs) → Reached C xs ys
@@ -95,14 +95,14 @@ module _ (C : Circuit) where
   in-exchanged a i j rest (inr (inr h)) = inr (inr h)
 
   exchanged-in : {xs ys : List ℕ} → Exchanged C xs ys → (a : ℕ) → In a xs ↔ In a ys
-  exchanged-in (here {i = i} {j = j} {rest = rest} e f) a = (in-exchanged a i j rest, in-exchanged a j i rest)
+  exchanged-in (neighbours {i = i} {j = j} {rest = rest} e f) a = (in-exchanged a i j rest, in-exchanged a j i rest)
   exchanged-in (later q) a = let r = exchanged-in q a in (
     λ h. elim h [ inl p ↦ inl p | inr k ↦ inr (r .0 k) ],
     λ h. elim h [ inl p ↦ inl p | inr k ↦ inr (r .1 k) ],
   )
 
   exchanged-once : {xs ys : List ℕ} → Exchanged C xs ys → Once xs → Once ys
-  exchanged-once (here e f) o = (
+  exchanged-once (neighbours e f) o = (
     λ h. elim h [ inl p ↦ o .0 (inl (sym p)) | inr k ↦ o .1 .0 k ],
     (λ h. o .0 (inr h), o .1 .1),
   )
@@ -110,11 +110,11 @@ module _ (C : Circuit) where
 
   -- what must come before another still does
   exchanged-before : {xs ys : List ℕ} → Exchanged C xs ys → (i j : ℕ) → C .prec i j ≡ true → Before i j xs → Before i j ys
-  exchanged-before (here {i = x} {j = y} e f) i j h (inl (p, inl q)) =
+  exchanged-before (neighbours {i = x} {j = y} e f) i j h (inl (p, inl q)) =
       absurd (not-both (C .prec x y) (subst (λ z. C .prec z y ≡ true) p (subst (λ z. C .prec i z ≡ true) q h)) e)
-  exchanged-before (here e f) i j h (inl (p, inr k)) = inr (inl (p, k))
-  exchanged-before (here e f) i j h (inr (inl k)) = inl (k .0, inr (k .1))
-  exchanged-before (here e f) i j h (inr (inr k)) = inr (inr k)
+  exchanged-before (neighbours e f) i j h (inl (p, inr k)) = inr (inl (p, k))
+  exchanged-before (neighbours e f) i j h (inr (inl k)) = inl (k .0, inr (k .1))
+  exchanged-before (neighbours e f) i j h (inr (inr k)) = inr (inr k)
   exchanged-before (later q) i j h (inl k) = inl (k .0, exchanged-in q j .0 (k .1))
   exchanged-before (later q) i j h (inr k) = inr (exchanged-before q i j h k)
 
@@ -137,7 +137,7 @@ module _ (C : Circuit) where
 
   -- an exchange keeps what exchanging such neighbours keeps, and so do many
   exchanged-meaning {ℓ} : {M : Type ℓ} (meaning : List ℕ → M) → Commute C meaning → {xs ys : List ℕ} → Exchanged C xs ys → meaning xs ≡ meaning ys
-  exchanged-meaning meaning commute (here {i = i} {j = j} {rest = rest} e f) = commute [] rest i j e f
+  exchanged-meaning meaning commute (neighbours {i = i} {j = j} {rest = rest} e f) = commute [] rest i j e f
   exchanged-meaning meaning commute (later {x = x} q) = exchanged-meaning (λ zs. meaning (x ∷ zs)) (λ front. commute (x ∷ front)) q
 
   reached-meaning {ℓ} : {M : Type ℓ} (meaning : List ℕ → M) → Commute C meaning → {xs ys : List ℕ} → Reached C xs ys → meaning xs ≡ meaning ys

@@ -10,7 +10,7 @@ use lib.Dec.{eqb}
 use borrow.Author.Tests.{eqb-true, eq-eqb, not-true}
 use Rattle.basics.proofs.Tests.{not-both, refuted, not-of-false, both, and-intro, either, or-left, or-right, neither, or-neither, true-or-false}
 use Rattle.orders.specs.Runs.{Circuit, Lawful, Pair, Runs, Allowed}
-use Rattle.orders.specs.Graph.{Reach, Clear}
+use Rattle.orders.specs.Graph.{Clear}
 use Rattle.orders.specs.Table.{Table, State, Start, Open, Says, Exact, ExactByReach, Grown, accept, accepted, fresh, offered, offer, offers, Within}
 use Rattle.orders.proofs.Graph.{reach-added}
 use Rattle.orders.proofs.Runs.{runs-none, runs-added, runs-self}

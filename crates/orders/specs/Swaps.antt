@@ -7,7 +7,7 @@ use Rattle.orders.specs.Runs.{Circuit}
 
 -- two neighbours are exchanged, of which neither must come before the other
 pub data Exchanged (C : Circuit) : List ℕ → List ℕ → Type 0 where
-  here : {i j : ℕ} {rest : List ℕ} → C .prec i j ≡ false → C .prec j i ≡ false → Exchanged C (i ∷ j ∷ rest) (j ∷ i ∷ rest)
+  neighbours : {i j : ℕ} {rest : List ℕ} → C .prec i j ≡ false → C .prec j i ≡ false → Exchanged C (i ∷ j ∷ rest) (j ∷ i ∷ rest)
   later : {x : ℕ} {xs ys : List ℕ} → Exchanged C xs ys → Exchanged C (x ∷ xs) (x ∷ ys)
 
 -- one list is reached from the other by such exchanges
