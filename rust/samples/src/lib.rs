@@ -1,0 +1,14 @@
+//! Inputs for tests and benchmarks: records, valid circuits of every shape, and damage done to them.
+//!
+//! A circuit made here is valid by the way it is made. Nothing here reads or judges one, so that
+//! neither program is tested against itself.
+
+#![deny(missing_docs)]
+#![forbid(unsafe_code)]
+
+pub mod circuits;
+pub mod damage;
+pub mod random;
+pub mod records;
+
+pub use random::Random;
