@@ -1,0 +1,31 @@
+//! The functions of the static library, and all that is unsafe in this crate.
+//!
+//! Nothing checks these declarations against `crates/thaksipho`: the tests compare what comes back
+//! with the second program. A slice goes over as its pointer and its length.
+
+#![allow(unsafe_code)]
+
+mod library {
+    extern "C" {
+        pub fn thaksipho_read(circuit: *const u8, circuit_length: usize) -> u64;
+        pub fn thaksipho_rewrite(
+            circuit: *const u8,
+            circuit_length: usize,
+            out: *mut u8,
+            out_length: usize,
+        ) -> u64;
+    }
+}
+
+pub(crate) fn read(circuit: &[u8]) -> u64 {
+    // SAFETY: the pointer and the length are those of a slice that outlives the call; the function
+    // has no `requires`, and reads inside the slice only.
+    unsafe { library::thaksipho_read(circuit.as_ptr(), circuit.len()) }
+}
+
+pub(crate) fn rewrite(circuit: &[u8], out: &mut [u8]) -> u64 {
+    // SAFETY: as above; `out` is lent for writing, so it overlaps no other slice.
+    unsafe {
+        library::thaksipho_rewrite(circuit.as_ptr(), circuit.len(), out.as_mut_ptr(), out.len())
+    }
+}
