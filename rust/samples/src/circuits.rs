@@ -60,11 +60,11 @@ pub fn random_instructions(random: &mut Random, shape: Shape) -> Vec<Vec<u8>> {
     let mut gates_left = shape.gates;
     let mut instructions = Vec::new();
     while !(fresh.is_empty() && in_use.is_empty()) {
-        // The last wire is not measured while gates are left.
-        let last = fresh.is_empty() && in_use.len() == 1;
+        // The last wire is kept while gates are left.
+        let keep = gates_left > 0 && fresh.is_empty() && in_use.len() == 1;
         let may_reset = !fresh.is_empty();
         let may_gate = gates_left > 0 && !in_use.is_empty();
-        let may_measure = !in_use.is_empty() && !(last && gates_left > 0);
+        let may_measure = !in_use.is_empty() && !keep;
 
         let of_reset = if may_reset { shape.resets } else { 0 };
         let of_gate = if may_gate { WEIGHT_OF_A_GATE } else { 0 };

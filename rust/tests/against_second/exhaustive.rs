@@ -1,0 +1,149 @@
+//! Every small input: short byte strings, short sequences of records, every kind in every state.
+
+use crate::comparison::Seen;
+use samples::circuits::joined;
+use samples::records::*;
+
+/// Kinds of each form and kinds of none, numbers at and beside every limit of a small circuit;
+/// 20 and 21 are also the greatest width and the least that is too great.
+const ALPHABET: [u8; 12] = [
+    0x00, 0x01, 0x02, 0x10, 0x11, 0x12, 0x20, 0x21, 0x3F, 0x40, 0x5F, 0x60,
+];
+
+#[test]
+fn every_input_of_up_to_6_bytes() {
+    let mut seen = Seen::default();
+    for length in 0..=6 {
+        let mut digits = vec![0; length];
+        loop {
+            let input: Vec<u8> = digits.iter().map(|&digit| ALPHABET[digit]).collect();
+            seen.compare(&input);
+            if !counted_up(&mut digits, ALPHABET.len()) {
+                break;
+            }
+        }
+    }
+    // A circuit has 7 bytes at least, and so has what 10, 11 and 12 refuse.
+    assert_eq!(seen.accepted, 0);
+    assert_eq!(seen.numbers(), [1, 2, 3, 4, 6, 7, 8, 9, 13]);
+}
+
+/// The next number with as many digits, the first digit moving fastest; false after the last one.
+fn counted_up(digits: &mut [usize], base: usize) -> bool {
+    for digit in digits {
+        *digit += 1;
+        if *digit < base {
+            return true;
+        }
+        *digit = 0;
+    }
+    false
+}
+
+/// Good and bad records over two wires.
+fn records_over_two_wires() -> Vec<Vec<u8>> {
+    let angle = [0, 1, 2, 0x10, 0x11, 0x20, 0x40, 0xFF];
+    vec![
+        reset(0),
+        reset(1),
+        reset(2),
+        gate(0x20, 0),
+        turned_gate(0x3F, 1, angle),
+        pair_gate(0x40, 0, 1),
+        pair_gate(0x4F, 0, 0),
+        turned_pair_gate(0x50, 1, 0, angle),
+        measurement(0, 0),
+        measurement(0, 1),
+        measurement(1, 0),
+        measurement(1, 1),
+        measurement(1, 2),
+        vec![0x60, 0, 1],
+    ]
+}
+
+#[test]
+fn every_sequence_of_up_to_5_records_over_2_wires() {
+    let mut seen = Seen::default();
+    let mut input = static_width(2);
+    extend_by_records(&mut input, 5, &records_over_two_wires(), &mut seen);
+    assert!(seen.accepted > 0);
+    assert_eq!(seen.numbers(), [2, 4, 6, 7, 8, 9, 10, 11, 12, 13]);
+    // What only a header can bring.
+    let mut headers = Seen::default();
+    for header in [
+        &[][..],
+        &[0x00],
+        &[0x01],
+        &[0x01, 0],
+        &[0x01, 33],
+        &[0x02, 1],
+    ] {
+        headers.compare(header);
+    }
+    assert_eq!(headers.numbers(), [1, 2, 3]);
+}
+
+#[test]
+fn every_sequence_of_up_to_4_records_on_other_widths() {
+    for (width, refusals) in [
+        (1, vec![2, 4, 6, 7, 8, 9, 10, 11, 13]),
+        (3, vec![2, 4, 7, 8, 9, 10, 12, 13]),
+    ] {
+        let mut seen = Seen::default();
+        let mut input = static_width(width);
+        extend_by_records(&mut input, 4, &records_over_two_wires(), &mut seen);
+        assert_eq!(seen.accepted > 0, width == 1);
+        assert_eq!(seen.numbers(), refusals, "width {width}");
+    }
+}
+
+/// Compares the input, then the input with each record after it, whole and cut anywhere inside,
+/// and so on until `left` records were added.
+fn extend_by_records(input: &mut Vec<u8>, left: usize, records: &[Vec<u8>], seen: &mut Seen) {
+    seen.compare(input);
+    if left == 0 {
+        return;
+    }
+    let length = input.len();
+    for record in records {
+        for cut in 1..record.len() {
+            input.extend(&record[..cut]);
+            seen.compare(input);
+            input.truncate(length);
+        }
+        input.extend(record);
+        extend_by_records(input, left - 1, records, seen);
+        input.truncate(length);
+    }
+}
+
+#[test]
+fn every_kind_in_every_state_of_its_wires() {
+    // Wire 2 stays measured to bit 2, so that a bit can be used.
+    let lives = |wire: u8| {
+        [
+            vec![],
+            vec![reset(wire)],
+            vec![reset(wire), measurement(wire, wire)],
+        ]
+    };
+    let mut seen = Seen::default();
+    for before in lives(0)
+        .iter()
+        .flat_map(|zero| lives(1).map(|one| [zero.concat(), one.concat()].concat()))
+    {
+        let before = joined(3, &[reset(2), measurement(2, 2), before]);
+        for kind in 0..=u8::MAX {
+            for (first, second) in
+                (0..=3).flat_map(|first| (0..=3).map(move |second| (first, second)))
+            {
+                for length in 0..=LONGEST_INSTRUCTION {
+                    let mut record = vec![kind, first, second];
+                    record.resize(LONGEST_INSTRUCTION, 0xEE);
+                    seen.compare(&[&before, &record[..length]].concat());
+                }
+            }
+        }
+    }
+    assert_eq!(seen.numbers(), [2, 4, 6, 7, 8, 9, 10, 11, 12, 13]);
+}

@@ -1,0 +1,9 @@
+//! The proved library held against the independent second program.
+
+#![deny(missing_docs)]
+
+mod comparison;
+mod document;
+mod exhaustive;
+mod limits;
+mod random;
