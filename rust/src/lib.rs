@@ -48,7 +48,7 @@ pub struct Circuit {
 /// assert_eq!(read(&one_wire[..4]), Err(Refusal { number: 13, place: 0 }));
 /// ```
 pub fn read(circuit: &[u8]) -> Result<Circuit, Refusal> {
-    let value = answer(boundary::read(circuit))?;
+    let value = outcome(boundary::read(circuit))?;
     Ok(Circuit {
         wires: (value % 256) as u8,
         instructions: value / 256,
@@ -59,13 +59,13 @@ pub fn read(circuit: &[u8]) -> Result<Circuit, Refusal> {
 /// of bytes written. They are the same bytes, and the rest of `out` stays as it was. Where `out` is
 /// too short the refusal is 31, and its place is the length needed.
 pub fn rewrite(circuit: &[u8], out: &mut [u8]) -> Result<usize, Refusal> {
-    let written = answer(boundary::rewrite(circuit, out))?;
+    let written = outcome(boundary::rewrite(circuit, out))?;
     Ok(written as usize)
 }
 
 /// Takes an answer of the library apart: a refusal's number times 2^32 plus its place, or a value
 /// below 2^32.
-fn answer(answer: u64) -> Result<u32, Refusal> {
+fn outcome(answer: u64) -> Result<u32, Refusal> {
     let number = u8::try_from(answer >> 32).expect("a refusal's number is below 256");
     let rest = answer as u32;
     match number {
@@ -83,13 +83,13 @@ mod tests {
 
     #[test]
     fn an_answer_is_a_value_or_a_refusal_with_its_place() {
-        assert_eq!(answer(0x0000_0000_0008_0020), Ok(0x0008_0020));
-        assert_eq!(answer(0xFFFF_FFFF), Ok(u32::MAX));
+        assert_eq!(outcome(0x0000_0000_0008_0020), Ok(0x0008_0020));
+        assert_eq!(outcome(0xFFFF_FFFF), Ok(u32::MAX));
         let refusal = Refusal {
             number: 13,
             place: 2,
         };
-        assert_eq!(answer(0x0000_000D_0000_0002), Err(refusal));
+        assert_eq!(outcome(0x0000_000D_0000_0002), Err(refusal));
         assert_eq!(refusal.to_string(), "refused 13 at 2");
     }
 }

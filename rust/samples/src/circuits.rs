@@ -31,13 +31,19 @@ pub struct Shape {
 }
 
 impl Shape {
-    /// A shape for many small circuits: seldom more than a dozen wires or two dozen gates.
+    /// A shape for many small circuits: seldom more than a dozen wires or two dozen gates. One in
+    /// two hundred has as many instructions as there may be, or one or two less.
     pub fn random(random: &mut Random) -> Shape {
         let most_wires = random.one_of(&[1, 2, 3, 4, 6, 8, 12, MOST_WIRES]);
         let most_gates = random.one_of(&[1, 4, 8, 24, 60]);
+        let wires = 1 + random.below(usize::from(most_wires)) as u8;
+        let gates = match random.once_in(200) {
+            true => MOST_INSTRUCTIONS - 2 * usize::from(wires) - random.below(3),
+            false => random.below(most_gates + 1),
+        };
         Shape {
-            wires: 1 + random.below(usize::from(most_wires)) as u8,
-            gates: random.below(most_gates + 1),
+            wires,
+            gates,
             resets: random.one_of(&[EARLY, WEIGHT_OF_A_GATE, LATE]),
             measurements: random.one_of(&[WEIGHT_OF_A_GATE, WEIGHT_OF_A_GATE / 5, LATE]),
         }
@@ -110,6 +116,12 @@ fn random_gate(random: &mut Random, in_use: &[u8]) -> Vec<u8> {
 /// A circuit of this shape.
 pub fn random_circuit(random: &mut Random, shape: Shape) -> Vec<u8> {
     joined(shape.wires, &random_instructions(random, shape))
+}
+
+/// A circuit of any shape, mostly small.
+pub fn any_circuit(random: &mut Random) -> Vec<u8> {
+    let shape = Shape::random(random);
+    random_circuit(random, shape)
 }
 
 /// The circuit with this width and these instructions.

@@ -45,8 +45,16 @@ fn disturb_bytes(random: &mut Random, circuit: &mut Vec<u8>) {
     }
 }
 
+/// Records in no order, or one time in four bytes at random.
+pub fn disordered_input(random: &mut Random) -> Vec<u8> {
+    match random.once_in(4) {
+        true => random_bytes(random),
+        false => random_records(random),
+    }
+}
+
 /// Any record of the house format, or one of no known kind, with numbers up to `most`.
-pub fn random_record(random: &mut Random, most: u8) -> Vec<u8> {
+fn random_record(random: &mut Random, most: u8) -> Vec<u8> {
     let sixteenth = random.below(16) as u8;
     let mut number = || random.below(usize::from(most) + 1) as u8;
     let (first, second) = (number(), number());
@@ -61,18 +69,19 @@ pub fn random_record(random: &mut Random, most: u8) -> Vec<u8> {
     }
 }
 
-/// A header and some records in no order, their numbers mostly small enough.
-pub fn random_records(random: &mut Random) -> Vec<u8> {
+/// A header and some records in no order, their numbers mostly small enough; half of the time after
+/// the resets, so that more than the first record counts.
+fn random_records(random: &mut Random) -> Vec<u8> {
     let wires = 1 + random.below(4) as u8;
     let most = if random.once_in(4) { wires } else { wires - 1 };
-    let records: Vec<_> = (0..random.below(12))
-        .map(|_| random_record(random, most))
-        .collect();
+    let resets = if random.once_in(2) { wires } else { 0 };
+    let mut records: Vec<_> = (0..resets).map(reset).collect();
+    records.extend((0..random.below(12)).map(|_| random_record(random, most)));
     joined(wires, &records)
 }
 
 /// Bytes at random, half of them with a good header.
-pub fn random_bytes(random: &mut Random) -> Vec<u8> {
+fn random_bytes(random: &mut Random) -> Vec<u8> {
     let mut bytes: Vec<u8> = (0..random.below(40)).map(|_| random.byte()).collect();
     if random.once_in(2) {
         let header = static_width(1 + random.below(usize::from(MOST_WIRES)) as u8);

@@ -8,6 +8,7 @@
 
 pub mod circuits;
 pub mod damage;
+pub mod document;
 pub mod random;
 pub mod records;
 

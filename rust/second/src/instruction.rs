@@ -57,7 +57,10 @@ impl Instruction {
             .find(|row| row.kinds.contains(&kind))
             .ok_or(4)?;
         let length = row.wires + row.bits + row.angle_bytes;
-        let (body, after) = rest.split_at_checked(length).ok_or(2)?;
+        if rest.len() < length {
+            return Err(2);
+        }
+        let (body, after) = rest.split_at(length);
         let (wires, body) = body.split_at(row.wires);
         let (bits, angle) = body.split_at(row.bits);
         let instruction = Instruction {

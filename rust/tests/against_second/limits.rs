@@ -117,10 +117,7 @@ fn each_wire_and_each_bit_is_told_from_every_other() {
 fn room_for_the_records_written_again() {
     let mut random = Random::new(31);
     let mut circuits = vec![bare(1), bare(MOST_WIRES), circuit_of(MOST_INSTRUCTIONS)];
-    for _ in 0..200 {
-        let shape = Shape::random(&mut random);
-        circuits.push(random_circuit(&mut random, shape));
-    }
+    circuits.extend((0..200).map(|_| any_circuit(&mut random)));
     for circuit in &circuits {
         let needed = circuit.len();
         for room in [0, 1, needed / 2, needed - 1] {

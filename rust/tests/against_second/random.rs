@@ -3,8 +3,8 @@
 //! `THAKSIPHO_RANDOM_COUNT` raises how many there are, and `THAKSIPHO_RANDOM_SEED` gives others.
 
 use crate::comparison::Seen;
-use samples::circuits::{random_circuit, Shape};
-use samples::damage::{damaged_circuit, random_bytes, random_records};
+use samples::circuits::any_circuit;
+use samples::damage::{damaged_circuit, disordered_input};
 use samples::Random;
 use std::env;
 
@@ -29,39 +29,23 @@ fn random_inputs() {
     println!("{count} inputs from seed {seed}");
 
     let mut random = Random::new(seed);
-    let (mut valid, mut damaged, mut disordered) = Default::default();
+    let mut valid = Seen::default();
+    let mut damaged = Seen::default();
+    let mut disordered = Seen::default();
     for turn in 0..count {
         match turn % 3 {
-            0 => compare_valid(&mut random, &mut valid),
-            1 => compare_damaged(&mut random, &mut damaged),
-            _ => compare_disordered(&mut random, &mut disordered),
+            0 => valid.compare(&any_circuit(&mut random)),
+            1 => damaged.compare(&damaged_circuit(&mut random)),
+            _ => disordered.compare(&disordered_input(&mut random)),
         }
     }
-    let all_but_5 = [1, 2, 3, 4, 6, 7, 8, 9, 10, 11, 12, 13];
     assert_eq!(valid.accepted, count.div_ceil(3));
-    assert!(
-        damaged.accepted > 100,
-        "{} of the damaged are valid",
-        damaged.accepted
-    );
-    assert_eq!(damaged.numbers(), all_but_5);
+    assert!(damaged.accepted > count / 100);
     assert!(disordered.accepted > 0);
-    assert_eq!(disordered.numbers(), all_but_5);
-}
-
-fn compare_valid(random: &mut Random, seen: &mut Seen) {
-    let shape = Shape::random(random);
-    seen.compare(&random_circuit(random, shape));
-}
-
-fn compare_damaged(random: &mut Random, seen: &mut Seen) {
-    seen.compare(&damaged_circuit(random));
-}
-
-fn compare_disordered(random: &mut Random, seen: &mut Seen) {
-    let input = match random.once_in(4) {
-        true => random_bytes(random),
-        false => random_records(random),
-    };
-    seen.compare(&input);
+    // 5 takes 2,049 instructions, which a random input seldom has; the limits have it.
+    for number in (1..=13).filter(|&number| number != 5) {
+        let of_damaged = damaged.refused.contains_key(&number);
+        let of_disordered = disordered.refused.contains_key(&number);
+        assert!(of_damaged || of_disordered, "{number} was never given");
+    }
 }
