@@ -4,16 +4,20 @@ use crate::circuits::{joined, random_instructions, Shape, MOST_WIRES};
 use crate::records::*;
 use crate::Random;
 
-/// A valid circuit with one to three faults put into it. Now and then it is still valid.
+/// A valid circuit, disturbed one to three times. Now and then it is still valid.
 pub fn damaged_circuit(random: &mut Random) -> Vec<u8> {
     let shape = Shape::random(random);
     let mut instructions = random_instructions(random, shape);
-    if random.once_in(2) {
+    let in_its_records = random.once_in(2);
+    let in_its_bytes = !in_its_records || random.once_in(2);
+    if in_its_records {
         disturb_records(random, &mut instructions);
     }
     let mut circuit = joined(shape.wires, &instructions);
-    for _ in 0..random.below(3) {
-        disturb_bytes(random, &mut circuit);
+    if in_its_bytes {
+        for _ in 0..=random.below(2) {
+            disturb_bytes(random, &mut circuit);
+        }
     }
     circuit
 }

@@ -3,13 +3,13 @@
 /// The eight bytes of an angle.
 pub type Angle = [u8; 8];
 
-/// The first kind of each form of gate; each form has sixteen kinds.
+/// The first of the sixteen kinds of gate on one wire.
 pub const ONE_WIRE: u8 = 0x20;
-/// One wire, with an angle.
+/// The first of the sixteen kinds of gate on one wire with an angle.
 pub const ONE_WIRE_TURNED: u8 = 0x30;
-/// Two wires.
+/// The first of the sixteen kinds of gate on two wires.
 pub const TWO_WIRES: u8 = 0x40;
-/// Two wires, with an angle.
+/// The first of the sixteen kinds of gate on two wires with an angle.
 pub const TWO_WIRES_TURNED: u8 = 0x50;
 
 /// How many bytes the longest instruction has: a kind, two wires, an angle.
