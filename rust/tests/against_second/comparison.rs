@@ -10,6 +10,9 @@ pub const UNTOUCHED: u8 = 0xA5;
 /// How much longer than the input the lent buffer is, so that bytes past the output are seen.
 const SPARE_ROOM: usize = 3;
 
+/// How many bytes beyond the lent buffer are looked at too.
+const BEYOND: usize = 8;
+
 /// The second program's answer to an input, in the words of the proved library.
 pub fn second_read(input: &[u8]) -> Result<Circuit, Refusal> {
     match second::read(input) {
@@ -59,10 +62,10 @@ impl Seen {
 /// Rewrites an input by both programs into a buffer of `room` bytes, and holds the answers and the
 /// whole buffers against each other. What is accepted must be the input's own bytes.
 pub fn compare_rewriting(input: &[u8], room: usize) {
-    let mut out = vec![UNTOUCHED; room];
+    let mut out = vec![UNTOUCHED; room + BEYOND];
     let mut expected_out = out.clone();
-    let answer = thaksipho::rewrite(input, &mut out);
-    let expected = second::rewrite(input, &mut expected_out).map_err(of_second);
+    let answer = thaksipho::rewrite(input, &mut out[..room]);
+    let expected = second::rewrite(input, &mut expected_out[..room]).map_err(of_second);
     assert_eq!(answer, expected, "rewriting {input:02x?} in {room} bytes");
     assert_eq!(out, expected_out, "rewriting {input:02x?} in {room} bytes");
     let written = answer.unwrap_or(0);

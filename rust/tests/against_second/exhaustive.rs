@@ -13,31 +13,31 @@ const ALPHABET: [u8; 12] = [
 #[test]
 fn every_input_of_up_to_6_bytes() {
     let mut seen = Seen::default();
-    for length in 0..=6 {
-        let mut digits = vec![0; length];
-        loop {
-            let input: Vec<u8> = digits.iter().map(|&digit| ALPHABET[digit]).collect();
-            seen.compare(&input);
-            if !counted_up(&mut digits, ALPHABET.len()) {
-                break;
-            }
-        }
-    }
+    compare_every_end(&[], 6, &mut seen);
     // A circuit has 7 bytes at least, and so has what 10, 11 and 12 refuse.
     assert_eq!(seen.accepted, 0);
     assert_eq!(seen.numbers(), [1, 2, 3, 4, 6, 7, 8, 9, 13]);
 }
 
-/// The next number with as many digits, the first digit moving fastest; false after the last one.
-fn counted_up(digits: &mut [usize], base: usize) -> bool {
-    for digit in digits {
-        *digit += 1;
-        if *digit < base {
-            return true;
+#[test]
+fn every_end_of_up_to_5_bytes_after_a_good_start() {
+    let mut seen = Seen::default();
+    compare_every_end(&joined(1, &[reset(0)]), 5, &mut seen);
+    compare_every_end(&joined(2, &[reset(0)]), 5, &mut seen);
+    let half_done = [reset(0), measurement(0, 0), reset(1)];
+    compare_every_end(&joined(2, &half_done), 5, &mut seen);
+    assert!(seen.accepted > 0);
+    assert_eq!(seen.numbers(), [2, 4, 6, 7, 8, 9, 10, 11, 12, 13]);
+}
+
+/// Compares the start with every string of up to `most` bytes of the alphabet after it.
+fn compare_every_end(start: &[u8], most: usize, seen: &mut Seen) {
+    seen.compare(start);
+    if most > 0 {
+        for byte in ALPHABET {
+            compare_every_end(&[start, &[byte]].concat(), most - 1, seen);
         }
-        *digit = 0;
     }
-    false
 }
 
 /// Good and bad records over two wires.
