@@ -1,3 +1,4 @@
+# shellcheck shell=bash
 # What the gate and the tests count with; a script sources it.
 
 passed=0 failed=0
