@@ -56,6 +56,12 @@ module _ (s : List ℕ) (at : ℕ) where
         go (done end) e = absurd (not-over e)
         go (refused n p) e = absurd (not-refused e)
 
+    -- and a step that is there and passes is taken
+    pub step-checked : {i : Instruction} {next : ℕ} → stepAt s at left ≡ done (step i next) → judgeOf width width c i ≡ passed
+        → checkedAt s at left width c ≡ done (step i next)
+    unfolding checkedAt
+    step-checked e j = rw (e, j)
+
 -- The reading from a place on
 
 module _ (s : List ℕ) (width : ℕ) (c : States) (at : ℕ) where

@@ -2,3 +2,4 @@ pub mod Limits
 pub mod Judging
 pub mod Stepping
 pub mod Reading
+pub mod Validity

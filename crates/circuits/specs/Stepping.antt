@@ -1,7 +1,8 @@
 -- The next step of a static circuit: the end of the input, or 5, 4, 2, or an instruction.
-use Prim.Native.Nat.{ℕ}
+use Prim.Native.Nat.{ℕ, suc, _≤_}
 use mathlib.Core.Bool.{Bool, false}
-use mathlib.Core.List.{List}
+use mathlib.Core.Path.{_≡_}
+use mathlib.Core.List.{List, [], _∷_}
 use mathlib.Core.Option.{Option, none, some}
 use lib.ListN.{length, getD}
 use lib.Dec.{leb, eqb}
@@ -49,3 +50,9 @@ instructionAt s at = pick (kindAllowed (getD s at 0)) (stepOf at (recordAt s at)
 -- the step at a place, where `left` more instructions are allowed: the end of the input, 5, 4, 2, or an instruction
 unfoldable pub stepAt : List ℕ → ℕ → ℕ → Outcome Next
 stepAt s at left = pick (leb (length s) at) (done end) (pick (eqb left 0) (refused 5 at) (instructionAt s at))
+
+-- from a place on these instructions stand, up to the end of the input, where `left` are allowed
+pub data Steps (s : List ℕ) : ℕ → ℕ → List Instruction → Type 0 where
+  ended : {at left : ℕ} → length s ≤ at → Steps s at left []
+  more : {at left next : ℕ} {i : Instruction} {is : List Instruction} → stepAt s at (suc left) ≡ done (step i next) → Steps s next left is
+      → Steps s at (suc left) (i ∷ is)
