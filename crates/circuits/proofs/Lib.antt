@@ -2,3 +2,4 @@ pub mod Turns
 pub mod Steps
 pub mod Walks
 pub mod Validity
+pub mod Rewrites

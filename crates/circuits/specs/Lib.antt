@@ -3,3 +3,4 @@ pub mod Judging
 pub mod Stepping
 pub mod Reading
 pub mod Validity
+pub mod Rewriting

@@ -2,6 +2,7 @@
 pub mod circuit;
 pub mod judging;
 pub mod reading;
+pub mod rewriting;
 pub mod states;
 pub mod stepping;
 
@@ -13,6 +14,8 @@ pub use judging::judge;
 pub use judging::place_of;
 pub use reading::Reading;
 pub use reading::read;
+pub use rewriting::Rewriting;
+pub use rewriting::rewrite;
 pub use states::States;
 pub use stepping::Found;
 pub use stepping::step_at;

@@ -6,8 +6,9 @@ use native.Mathlib.Omega.{arith}
 use native.Mathlib.Numerals.{add-one}
 use lib.ListN.{length, take, drop, set, length-append, length-take, length-drop, take-append-drop}
 use lib.Seq.{set-split, take-at, drop-at, drop-drop, length-take-le}
-use borrow.Author.Tests.{le-leb, lt-leb}
-use Rattle.writing.specs.Writing.{put, Wrote, Placed}
+use borrow.Author.Tests.{le-leb, lt-leb, le-ltb, lt-ltb}
+use Rattle.basics.specs.Outcome.{Outcome, done, refused}
+use Rattle.writing.specs.Writing.{put, Wrote, Placed, Settled, fitted, sized, holding}
 
 pub put-none : (old : List ℕ) (at : ℕ) → put old at [] ≡ old
 unfolding put
@@ -60,6 +61,14 @@ pub put-start : (old xs : List ℕ) → put old 0 xs ≡ xs ++ drop (length xs) 
 unfolding put
 put-start old xs = let e : 0 + length xs ≡ length xs = omega arith in rw e refl
 
+-- one written after the other is both written
+pub wrote-on : {old : List ℕ} {at : ℕ} {xs mid : List ℕ} {seam : ℕ} {ys new : List ℕ} {to : ℕ} → at ≤ length old → Wrote old at xs mid seam
+    → Wrote mid seam ys new to → Wrote old at (xs ++ ys) new to
+wrote-on {old} {at} {xs} {mid} {seam} {ys} {new} {to} l v w = record {
+  holds = w .holds ∙ rw (v .holds, v .end) (put-put old at xs ys l);
+  end = omega (arith, v .end, w .end, length-append xs ys);
+}
+
 -- where there is room, what was placed was written
 module _ {old : List ℕ} {at : ℕ} {xs new : List ℕ} {to : ℕ} where
   pub placed-wrote : Placed old at xs new to → at + length xs ≤ length old → Wrote old at xs new to
@@ -80,3 +89,23 @@ no-room {old} {at} {xs} l = record {
   holds = rw (lt-leb (at + length xs) (length old) l);
   end = rw (lt-leb (at + length xs) (length old) l);
 }
+
+-- a call that is refused, and one that wrote its bytes from the start
+pub settled-refused : {old : List ℕ} {o : Outcome (List ℕ)} {n p : ℕ} → o ≡ refused n p → Settled old o (refused n p) old
+settled-refused {old} e = record { tells = ap sized (sym e); leaves = ap (holding old) (sym e) }
+
+pub settled-done : {old : List ℕ} {o : Outcome (List ℕ)} {bytes new : List ℕ} {to : ℕ} → o ≡ done bytes → Wrote old 0 bytes new to
+    → Settled old o (done to) new
+settled-done {old} {bytes = bytes} {to = to} e w = record {
+  tells = let z : to ≡ length bytes = omega (arith, w .end) in ap (λ (n : ℕ). done n) z ∙ ap sized (sym e);
+  leaves = w .holds ∙ ap (holding old) (sym e);
+}
+
+-- whether there is room
+pub fitted-done : (room : ℕ) (bytes : List ℕ) → length bytes ≤ room → fitted room bytes ≡ done bytes
+unfolding fitted
+fitted-done room bytes h = rw (le-ltb room (length bytes) h)
+
+pub fitted-refused : (room : ℕ) (bytes : List ℕ) → room < length bytes → fitted room bytes ≡ refused 31 (length bytes)
+unfolding fitted
+fitted-refused room bytes h = rw (lt-ltb room (length bytes) h)
