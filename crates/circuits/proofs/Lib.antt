@@ -3,3 +3,4 @@ pub mod Steps
 pub mod Walks
 pub mod Validity
 pub mod Rewrites
+pub mod FirstBytes

@@ -135,3 +135,21 @@ reads-after s w e = rw e (told (readFrom mostInstructions s w freshStates header
     told : (o : Outcome (List Instruction)) → counted w 0 o ≡ summary (widthened w o)
     told (done is) = let z : 0 + length is ≡ length is = omega arith in ap (λ (n : ℕ). done (circuitOf w n)) z
     told (refused n p) = refl
+
+-- What holds at the end, at a refusal and before each instruction that passed holds of every reading.
+module _ (s : List ℕ) (width : ℕ) (P : ℕ → States → ℕ → Outcome (List Instruction) → Type 0)
+    (at-end : (left : ℕ) (c : States) (at : ℕ) → checkedAt s at left width c ≡ done end → P left c at (ending width c))
+    (at-refusal : (left : ℕ) (c : States) (at n p : ℕ) → checkedAt s at left width c ≡ refused n p → P left c at (refused n p))
+    (at-step : (left : ℕ) (c : States) (at : ℕ) (i : Instruction) (next : ℕ) (o : Outcome (List Instruction))
+        → checkedAt s at (suc left) width c ≡ done (step i next) → P left (advanceOf c i) next o → P (suc left) c at (before i o)) where
+  turn : (left : ℕ) (c : States) (at : ℕ) (o : Outcome Next) → checkedAt s at left width c ≡ o
+      → ((i : Instruction) (next : ℕ) → checkedAt s at left width c ≡ done (step i next) → P left c at (readFrom left s width c at)) → P left c at (readFrom left s width c at)
+  turn left c at (done end) e go = rw (reads-end s width c at left e) (at-end left c at e)
+  turn left c at (refused n p) e go = rw (reads-refused s width c at left e) (at-refusal left c at n p e)
+  turn left c at (done (step i next)) e go = go i next e
+
+  pub by-turns : (left : ℕ) (c : States) (at : ℕ) → P left c at (readFrom left s width c at)
+  by-turns zero c at = turn zero c at (checkedAt s at zero width c) refl (λ i next e. absurd (omega (arith, passed-left s width c at zero e)))
+  by-turns (suc left) c at =
+      turn (suc left) c at (checkedAt s at (suc left) width c) refl
+      (λ i next e. rw (reads-step s width c at left e) (at-step left c at i next _ e (by-turns left (advanceOf c i) next)))

@@ -1,6 +1,6 @@
 -- `readCircuit s` is a circuit exactly when s is its bytes and it passes every check. Both ways by the turns of the reading.
 -- Assumes nothing.
-use Prim.Native.Nat.{ℕ, zero, suc, _-_, _≤_, _<_}
+use Prim.Native.Nat.{ℕ, suc, _≤_}
 use mathlib.Core.Bool.{Bool, true, false}
 use mathlib.Core.Path.{_≡_, refl, sym, ap, subst, _∙_}
 use mathlib.Core.Logic.{_↔_}
@@ -23,7 +23,7 @@ use Rattle.circuits.specs.Stepping.{Next, step, end, stepAt, Steps, ende
 use Rattle.circuits.specs.Reading.{Static, headerOf, headed, widthRead, staticKind, judged, checked, checkedAt, ending, before, readFrom, widthened, afterHeader, readCircuit}
 use Rattle.circuits.specs.Validity.{stepsBytes, Passes, none, also, Valid}
 use Rattle.circuits.specs.declared.states.States.{States}
-use Rattle.circuits.proofs.Turns.{not-refused, not-over, checked-step, step-checked, reads-end, reads-refused, reads-step, passed-left, reads-on}
+use Rattle.circuits.proofs.Turns.{not-refused, not-over, checked-step, step-checked, reads-end, reads-step, by-turns}
 use Rattle.circuits.proofs.Steps.{step-end, end-step}
 use Rattle.circuits.proofs.Walks.{steps-bytes, bytes-steps}
 
@@ -52,41 +52,32 @@ module _ (s : List ℕ) (width : ℕ) where
       go (done end) e = refl
       go (refused n p) e = absurd (not-refused e)
 
-  before-done : (i : Instruction) (o : Outcome (List Instruction)) {is : List Instruction} → before i o ≡ done is
-      → (js : List Instruction) × (o ≡ done js) × (i ∷ js ≡ is)
-  before-done i (done js) {is} e = (js, refl, cc)
-  before-done i (refused n p) e = absurd (not-refused e)
-
   -- the instructions that were read stand there and pass
   abbrev Stand : ℕ → States → ℕ → List Instruction → Type 0
   Stand left c at is = Steps s at left is × Passes width c is
 
-  -- one turn, whatever is known of the turns behind it
-  turn-stand : (left : ℕ) (c : States) (at : ℕ) {is : List Instruction}
-      → ((d : States) (next : ℕ) (js : List Instruction) → 0 < left → readFrom (left - 1) s width d next ≡ done js → Stand (left - 1) d next js)
-      → (o : Outcome Next) → checkedAt s at left width c ≡ o → readFrom left s width c at ≡ done is → Stand left c at is
-  turn-stand left c at behind (done end) z e =
-      let p = ended-passes c (sym (reads-end s width c at left z) ∙ e) in
-      (subst (Steps s at left) (sym (p .0)) (ended (step-end s at left (checked-end at left c z))), p .1)
-  turn-stand left c at behind (refused n p) z e = absurd (not-refused (sym (reads-refused s width c at left z) ∙ e))
-  turn-stand left c at behind (done (step i next)) z e =
-      let l = passed-left s width c at left z in
-      let p = checked-step s at left width c z in
-      let q = before-done i (readFrom (left - 1) s width (advanceOf c i) next) (sym (reads-on s width c at left z) ∙ e) in
-      let g = behind (advanceOf c i) next (q .0) l (q .1) in
-      let k : suc (left - 1) ≡ left = omega arith in
-      subst (Stand left c at) (q .2) (
-        subst (λ (n : ℕ). Steps s at n (i ∷ q .0)) k (more (ap (stepAt s at) k ∙ p .0) (g .0)),
-        also (p .1) (g .1),
-      )
-
   pub read-stand : (left : ℕ) (c : States) (at : ℕ) {is : List Instruction} → readFrom left s width c at ≡ done is → Stand left c at is
-  read-stand zero c at e = turn-stand zero c at (λ d next js l. absurd (omega arith)) (checkedAt s at zero width c) refl e
-  read-stand (suc left) c at e =
-      let k : left ≡ suc left - 1 = omega arith in
-      turn-stand (suc left) c at
-      (λ d next js l f. subst (λ (n : ℕ). Stand n d next js) k (read-stand left d next (ap (λ (n : ℕ). readFrom n s width d next) k ∙ f)))
-      (checkedAt s at (suc left) width c) refl e
+  read-stand left c at {is} e = by-turns s width P at-end at-refusal at-step left c at is e
+    where
+      P : ℕ → States → ℕ → Outcome (List Instruction) → Type 0
+      P left c at o = (is : List Instruction) → o ≡ done is → Stand left c at is
+
+      at-end : (left : ℕ) (c : States) (at : ℕ) → checkedAt s at left width c ≡ done end → P left c at (ending width c)
+      at-end left c at z is e =
+          let p = ended-passes c e in
+          (subst (Steps s at left) (sym (p .0)) (ended (step-end s at left (checked-end at left c z))), p .1)
+
+      at-refusal : (left : ℕ) (c : States) (at n p : ℕ) → checkedAt s at left width c ≡ refused n p → P left c at (refused n p)
+      at-refusal left c at n p z is e = absurd (not-refused e)
+
+      at-step : (left : ℕ) (c : States) (at : ℕ) (i : Instruction) (next : ℕ) (o : Outcome (List Instruction))
+          → checkedAt s at (suc left) width c ≡ done (step i next) → P left (advanceOf c i) next o → P (suc left) c at (before i o)
+      at-step left c at i next (refused n p) z behind is e = absurd (not-refused e)
+      at-step left c at i next (done js) z behind is e =
+          let p = checked-step s at (suc left) width c z in
+          let g = behind js refl in
+          let y : i ∷ js ≡ is = cc in
+          subst (Stand (suc left) c at) y (more (p .0) (g .0), also (p .1) (g .1))
 
   -- From what stands to a reading
 
@@ -142,6 +133,9 @@ module _ (s : List ℕ) where
       go true b e = absurd (not-refused e)
       go false true e = answer (recordAt s 0) refl e
       go false false e = absurd (not-refused e)
+
+  pub header-narrow : {w : ℕ} → headerOf s ≡ done w → w ≤ mostWires
+  header-narrow e = header-told e .narrow
 
   told-header : (w : ℕ) (rest : List ℕ) → s ≡ recordBytes (StaticWidth w) ++ rest → 1 ≤ w → w ≤ mostWires → headerOf s ≡ done w
   unfolding headerOf widthRead shapeOf
