@@ -4,3 +4,5 @@ pub mod Walks
 pub mod Validity
 pub mod Rewrites
 pub mod FirstBytes
+pub mod Refusals
+pub mod Unique

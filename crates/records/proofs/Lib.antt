@@ -3,3 +3,4 @@ pub mod Standings
 pub mod Encodings
 pub mod RoundTrip
 pub mod Prefixes
+pub mod Unique
