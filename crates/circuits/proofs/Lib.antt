@@ -6,3 +6,4 @@ pub mod Rewrites
 pub mod FirstBytes
 pub mod Refusals
 pub mod Unique
+pub mod Worked

@@ -141,7 +141,7 @@ module _ (s : List ℕ) (width : ℕ) (P : ℕ → States → ℕ → Outcome (L
     (at-end : (left : ℕ) (c : States) (at : ℕ) → checkedAt s at left width c ≡ done end → P left c at (ending width c))
     (at-refusal : (left : ℕ) (c : States) (at n p : ℕ) → checkedAt s at left width c ≡ refused n p → P left c at (refused n p))
     (at-step : (left : ℕ) (c : States) (at : ℕ) (i : Instruction) (next : ℕ) (o : Outcome (List Instruction))
-        → checkedAt s at (suc left) width c ≡ done (step i next) → P left (advanceOf c i) next o → P (suc left) c at (before i o)) where
+    → checkedAt s at (suc left) width c ≡ done (step i next) → P left (advanceOf c i) next o → P (suc left) c at (before i o)) where
   turn : (left : ℕ) (c : States) (at : ℕ) (o : Outcome Next) → checkedAt s at left width c ≡ o
       → ((i : Instruction) (next : ℕ) → checkedAt s at left width c ≡ done (step i next) → P left c at (readFrom left s width c at)) → P left c at (readFrom left s width c at)
   turn left c at (done end) e go = rw (reads-end s width c at left e) (at-end left c at e)

@@ -1,0 +1,70 @@
+-- Values and places fit a word: they are below 2 ^ 32, and a refusal's number is not 0, so a word has one meaning. Assumes nothing.
+use Prim.Native.Nat.{ℕ, zero, suc, _+_, _*_, _≤_, _<_}
+use mathlib.Core.Bool.{Bool, true, false}
+use mathlib.Core.Path.{_≡_, refl, sym, ap, subst, _∙_}
+use mathlib.Core.List.{List}
+use native.Mathlib.Omega.{arith}
+use native.Mathlib.Nat.{suc-mul}
+use lib.ListN.{length}
+use lib.Dec.{ltb}
+use borrow.Author.Tests.{ltb-true, ltb-false}
+use Rattle.basics.specs.Choice.{pick}
+use Rattle.basics.specs.Outcome.{Outcome, done, refused}
+use Rattle.writing.specs.Writing.{fitted, sized, Settled}
+use Rattle.circuits.specs.Limits.{mostWires, mostInstructions, decidingBytes}
+use Rattle.circuits.specs.Reading.{Static, summary, circuitOf, readCircuit}
+use Rattle.circuits.specs.Validity.{circuitBytes}
+use Rattle.circuits.specs.Rewriting.{againOf, rewritten}
+use Rattle.circuits.specs.declared.circuit.Circuit.{Circuit}
+use Rattle.circuits.proofs.Validity.{read-valid}
+use Rattle.circuits.proofs.Refusals.{refused-circuit, valid-short}
+use Rattle.thaksipho.specs.Words.{placesEnd, word, circuitValue, Worded}
+
+-- an outcome that fits a word
+abbrev pub Fits : Outcome ℕ → Type 0
+Fits (done value) = value < placesEnd
+Fits (refused number place) = (1 ≤ number) × (place < placesEnd)
+
+-- two outcomes that fit and have the same word are the same
+pub word-one : (o p : Outcome ℕ) → Fits o → Fits p → word o ≡ word p → o ≡ p
+word-one (done v) (done w) f g e = ap (λ (x : ℕ). done x) e
+word-one (done v) (refused (suc n) p) f g e = absurd (omega (arith, suc-mul n placesEnd))
+word-one (refused (suc n) p) (done v) f g e = absurd (omega (arith, suc-mul n placesEnd))
+word-one (done v) (refused zero p) f g e = absurd (omega arith)
+word-one (refused zero p) (done v) f g e = absurd (omega arith)
+word-one (refused m p) (refused n q) f g e =
+    let a : m ≡ n = omega arith in
+    let b : p ≡ q = omega arith in
+    ap (λ (x : ℕ). refused x p) a ∙ ap (refused n) b
+
+module _ (s : List ℕ) where
+  -- what the reader tells fits
+  pub read-fits : Fits (circuitValue (summary (readCircuit s)))
+  read-fits = go (readCircuit s) refl
+    where
+      go : (o : Outcome Static) → readCircuit s ≡ o → Fits (circuitValue (summary o))
+      go (done c) e = let v = read-valid s e in omega (arith, v .few, v .narrow)
+      go (refused n p) e = let r = refused-circuit s e in (r .0 .0, omega (arith, r .1))
+
+  -- what is written again fits
+  pub rewrite-fits : (room : ℕ) → Fits (sized (rewritten s room))
+  unfolding rewritten fitted
+  rewrite-fits room = go (readCircuit s) refl
+    where
+      written : (b : Bool) (bytes : List ℕ) → length bytes < placesEnd → Fits (sized (pick b (refused 31 (length bytes)) (done bytes)))
+      written true bytes h = (omega arith, h)
+      written false bytes h = h
+
+      go : (o : Outcome Static) → readCircuit s ≡ o → Fits (sized (againOf room o))
+      go (done c) e =
+          let v = read-valid s e in
+          written (ltb room (length (circuitBytes c))) (circuitBytes c) (omega (arith, valid-short s c v, ap length (v .bytes)))
+      go (refused n p) e = let r = refused-circuit s e in (r .0 .0, omega (arith, r .1))
+
+-- what a call told fits, since its outcome does
+pub told-fits : {told o : Outcome ℕ} → told ≡ o → Fits o → Fits told
+told-fits e f = subst Fits (sym e) f
+
+-- the word of what a writing call told
+pub worded : {old : List ℕ} {o : Outcome (List ℕ)} {told : Outcome ℕ} {new : List ℕ} {w : ℕ} → Settled old o told new → w ≡ word told → Worded old o w new
+worded s e = record { tells = e ∙ ap word (s .tells); leaves = s .leaves }

@@ -1,0 +1,45 @@
+-- `thaksipho::thaksipho_rewrite` meets its contract: what was told, as a word that it fits. Assumes nothing.
+use mathlib.Core.Path.{sym, ap, _∙_}
+use Rattle.circuits.specs.Rewriting.{rewritingOf}
+use Rattle.thaksipho.specs.Words.{word}
+use Rattle.thaksipho.proofs.Fitting.{told-fits, worded, rewrite-fits}
+use borrow.Author.Needs.{needs}
+use Rattle.thaksipho.proofs.thaksipho_rewrite.Statement.{statement}
+use Rattle.thaksipho.proofs.thaksipho_rewrite.Tie as tie
+
+rewrite-requires : tie.Need-rewrite-requires
+rewrite-requires c κs = search needs
+
+enum-known-n : tie.Need-enum-known-n
+enum-known-n c = search needs
+
+enum-known-r : tie.Need-enum-known-r
+enum-known-r c = search needs
+
+refusal-word-requires : tie.Need-refusal-word-requires
+refusal-word-requires c κs = told-fits (sym (ap rewritingOf (c .before .r .given .1)) ∙ c .before .before .before .before .before .rewrite .ensures .tells) (rewrite-fits _ _) .1
+
+same-length : tie.Need-same-length
+same-length c = search needs
+
+returns : tie.Need-returns
+returns c = worded (c .before .before .before .before .before .rewrite .ensures) (sym (ap (λ r. word (rewritingOf r)) (c .before .n .given .1)))
+
+same-length-2 : tie.Need-same-length-2
+same-length-2 c = search needs
+
+returns-2 : tie.Need-returns-2
+returns-2 c = worded (c .before .before .before .before .before .before .rewrite .ensures) (c .refusal-word .ensures ∙ sym (ap (λ r. word (rewritingOf r)) (c .before .before .r .given .1)))
+
+pub thaksipho-rewrite-spec : {M : Type 1} → statement M
+thaksipho-rewrite-spec =
+    tie.close
+    (tie.spec
+    rewrite-requires
+    enum-known-n
+    enum-known-r
+    refusal-word-requires
+    same-length
+    returns
+    same-length-2
+    returns-2)
