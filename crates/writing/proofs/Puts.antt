@@ -1,14 +1,16 @@
 -- Laws of `put`: one after the other, a single store, and the whole from the start. Assumes nothing.
-use mathlib.Core.Path.{_≡_, refl, sym, ap, _∙_}
+use mathlib.Core.Bool.{Bool, true, false}
+use mathlib.Core.Path.{_≡_, refl, sym, ap, subst, _∙_}
 use mathlib.Core.List.{List, [], _∷_, _++_, append-assoc}
 use Prim.Native.Nat.{ℕ, _+_, _≤_, _<_}
 use native.Mathlib.Omega.{arith}
 use native.Mathlib.Numerals.{add-one}
 use lib.ListN.{length, take, drop, set, length-append, length-take, length-drop, take-append-drop}
 use lib.Seq.{set-split, take-at, drop-at, drop-drop, length-take-le}
-use borrow.Author.Tests.{le-leb, lt-leb, le-ltb, lt-ltb}
+use borrow.Author.Tests.{le-leb, lt-leb, le-ltb, lt-ltb, leb-true}
+use Rattle.basics.specs.Choice.{pick}
 use Rattle.basics.specs.Outcome.{Outcome, done, refused}
-use Rattle.writing.specs.Writing.{put, Wrote, Placed, Settled, fitted, sized, holding}
+use Rattle.writing.specs.Writing.{put, fits, Wrote, Placed, Settled, fitted, sized, holding}
 
 pub put-none : (old : List ℕ) (at : ℕ) → put old at [] ≡ old
 unfolding put
@@ -109,3 +111,19 @@ fitted-done room bytes h = rw (le-ltb room (length bytes) h)
 pub fitted-refused : (room : ℕ) (bytes : List ℕ) → room < length bytes → fitted room bytes ≡ refused 31 (length bytes)
 unfolding fitted
 fitted-refused room bytes h = rw (lt-ltb room (length bytes) h)
+
+-- a buffer keeps its length, and the place stays inside it
+module _ {old : List ℕ} {at : ℕ} {xs new : List ℕ} {to : ℕ} (p : Placed old at xs new to) where
+  pub placed-length : length new ≡ length old
+  placed-length = ap length (p .holds) ∙ go (fits old at xs) refl
+    where
+      go : (b : Bool) → fits old at xs ≡ b → length (pick b (put old at xs) old) ≡ length old
+      go true e = length-put old at xs (leb-true (at + length xs) (length old) e)
+      go false e = refl
+
+  pub placed-within : at ≤ length old → to ≤ length old
+  placed-within l = subst (λ (n : ℕ). n ≤ length old) (sym (p .end)) (go (fits old at xs) refl)
+    where
+      go : (b : Bool) → fits old at xs ≡ b → pick b (at + length xs) at ≤ length old
+      go true e = leb-true (at + length xs) (length old) e
+      go false e = l
