@@ -1,0 +1,229 @@
+-- In a circuit that passes the checks every line named is below the width, each line below it lives from its reset to its measurement, and the
+-- bits below it receive one measurement each. By induction over the checks, with the state of one line. Assumes nothing.
+use Prim.Native.Nat.{ℕ, zero, suc, _+_, _≤_, _<_}
+use mathlib.Core.Path.{_≡_, refl, sym, ap, subst, _∙_}
+use mathlib.Core.Logic.{_⊎_, inl, inr, _≢_}
+use mathlib.Core.Bool.{Bool, true, false}
+use mathlib.Core.List.{List, [], _∷_}
+use mathlib.Core.Option.{Option, none, some}
+use native.Mathlib.Omega.{arith}
+use lib.ListN.{length, getD, set, getElem?, length-set, getD-replicate}
+use lib.Seq.{getD-set-same, getD-set-other}
+use lib.Dec.{eqb, leb}
+use borrow.Author.Tests.{eqb-true, eqb-false, eq-eqb, leb-false, not-false}
+use Rattle.basics.specs.Choice.{pick}
+use Rattle.basics.proofs.Tests.{not-both, true-or-false, refuted, same-or-other}
+use Rattle.orders.specs.Indices.{In, Once, Order, stands}
+use Rattle.orders.proofs.Indices.{stands-in, in-stands, once-full, order-length}
+use Rattle.records.specs.declared.numbers.Line.{Line}
+use Rattle.records.specs.declared.numbers.Bit.{Bit}
+use Rattle.records.specs.declared.instructions.Instruction.{Instruction}
+use Rattle.records.specs.declared.instructions.Instruction.the-variants.{Reset, Measurement, Gate, AngledGate, TwoLineGate, AngledTwoLineGate}
+use Rattle.circuits.specs.Limits.{mostWires}
+use Rattle.circuits.specs.Judging.{fresh, inUse, finished, used, freshStates, lineState, bitState, unfinished, firstUnfinished, advanceOf, Verdict, passed, fault, _then_, faulty, live, judgeReset, judgeGate, judgeMeasurement, judgeTwo, judgeOf}
+use Rattle.circuits.specs.Validity.{Passes, none, also}
+use Rattle.circuits.specs.declared.states.States.{States}
+use Rattle.precedence.specs.Lives.{linesOf, touches, resets, measures, isGate, Life, over, apart, begins, works, ends, bitsOf}
+
+-- ## What a verdict that passed says
+
+both-passed : (u v : Verdict) → u then v ≡ passed → (u ≡ passed) × (v ≡ passed)
+both-passed passed v e = (refl, e)
+both-passed (fault n o) v e = let z : _≡_ {A = ℕ} 0 1 = cc in absurd (omega arith)
+
+not-faulty : (n o : ℕ) (t : Bool) → faulty n o t ≡ passed → t ≡ false
+not-faulty n o true e = let z : _≡_ {A = ℕ} 0 1 = cc in absurd (omega arith)
+not-faulty n o false e = refl
+
+module _ (width : ℕ) (c : States) where
+  live-passed : (o : ℕ) (l : Line) → live o c l ≡ passed → (lineState c l ≢ finished) × (lineState c l ≢ fresh)
+  unfolding live
+  live-passed o l e =
+      let p = both-passed (faulty 10 o (eqb (lineState c l) finished)) _ e in
+      (eqb-false _ _ (not-faulty 10 o _ (p .0)), eqb-false _ _ (not-faulty 8 o _ (p .1)))
+
+  reset-passed : (l : Line) → judgeReset width c l ≡ passed → (l .0 < width) × (lineState c l ≢ finished) × (lineState c l ≢ inUse)
+  unfolding judgeReset
+  reset-passed l e =
+      let p = both-passed (faulty 6 1 (leb width (l .0))) _ e in
+      let q = both-passed (faulty 10 1 (eqb (lineState c l) finished)) _ (p .1) in
+      (leb-false _ _ (not-faulty 6 1 _ (p .0)), eqb-false _ _ (not-faulty 10 1 _ (q .0)), eqb-false _ _ (not-faulty 9 1 _ (q .1)))
+
+  -- a line that an instruction other than a reset may be on
+  abbrev Live : Line → Type 0
+  Live l = (l .0 < width) × ((lineState c l ≢ finished) × (lineState c l ≢ fresh))
+
+  gate-passed : (l : Line) → judgeGate width c l ≡ passed → Live l
+  unfolding judgeGate
+  gate-passed l e =
+      let p = both-passed (faulty 6 1 (leb width (l .0))) _ e in
+      (leb-false _ _ (not-faulty 6 1 _ (p .0)), live-passed 1 l (p .1))
+
+  measurement-passed : (l : Line) (b : Bit) → judgeMeasurement width width c l b ≡ passed → Live l × (b .0 < width) × (bitState c b ≢ used)
+  unfolding judgeMeasurement
+  measurement-passed l b e =
+      let p = both-passed (judgeGate width c l) _ e in
+      let q = both-passed (faulty 11 2 (leb width (b .0))) _ (p .1) in
+      (gate-passed l (p .0), leb-false _ _ (not-faulty 11 2 _ (q .0)), eqb-false _ _ (not-faulty 12 2 _ (q .1)))
+
+  two-passed : (l m : Line) → judgeTwo width c l m ≡ passed → Live l × Live m × (l .0 ≢ m .0)
+  unfolding judgeTwo
+  two-passed l m e =
+      let p = both-passed (faulty 6 1 (leb width (l .0))) _ e in
+      let q = both-passed (faulty 6 2 (leb width (m .0))) _ (p .1) in
+      let r = both-passed (faulty 7 2 (eqb (l .0) (m .0))) _ (q .1) in
+      let s = both-passed (live 1 c l) _ (r .1) in (
+        (leb-false _ _ (not-faulty 6 1 _ (p .0)), live-passed 1 l (s .0)),
+        (leb-false _ _ (not-faulty 6 2 _ (q .0)), live-passed 2 m (s .1)),
+        eqb-false _ _ (not-faulty 7 2 _ (r .0)),
+      )
+
+  -- every line that an instruction names is below the width, and it names none twice
+  named-below : (i : Instruction) → judgeOf width width c i ≡ passed → (x : ℕ) → In x (linesOf i) → x < width
+  named-below (Reset l) e x (inl h) = subst (λ z. z < width) (sym h) (reset-passed l e .0)
+  named-below (Measurement l b) e x (inl h) = subst (λ z. z < width) (sym h) (measurement-passed l b e .0 .0)
+  named-below (Gate k l) e x (inl h) = subst (λ z. z < width) (sym h) (gate-passed l e .0)
+  named-below (AngledGate k l a) e x (inl h) = subst (λ z. z < width) (sym h) (gate-passed l e .0)
+  named-below (TwoLineGate k l m) e x (inl h) = subst (λ z. z < width) (sym h) (two-passed l m e .0 .0)
+  named-below (TwoLineGate k l m) e x (inr (inl h)) = subst (λ z. z < width) (sym h) (two-passed l m e .1 .0)
+  named-below (AngledTwoLineGate k l m a) e x (inl h) = subst (λ z. z < width) (sym h) (two-passed l m e .0 .0)
+  named-below (AngledTwoLineGate k l m a) e x (inr (inl h)) = subst (λ z. z < width) (sym h) (two-passed l m e .1 .0)
+
+  named-once : (i : Instruction) → judgeOf width width c i ≡ passed → Once (linesOf i)
+  named-once (Reset l) e = (λ h. h, tt)
+  named-once (Measurement l b) e = (λ h. h, tt)
+  named-once (Gate k l) e = (λ h. h, tt)
+  named-once (AngledGate k l a) e = (λ h. h, tt)
+  named-once (TwoLineGate k l m) e = (λ h. elim h [ inl z ↦ two-passed l m e .2 z | inr z ↦ z ], (λ h. h, tt))
+  named-once (AngledTwoLineGate k l m a) e = (λ h. elim h [ inl z ↦ two-passed l m e .2 z | inr z ↦ z ], (λ h. h, tt))
+
+-- ## The life of one line
+
+-- where no line is found unfinished, each is finished
+none-unfinished : (n : ℕ) (states : List ℕ) (i x : ℕ) → i + n ≤ firstUnfinished n states i → i ≤ x → x < i + n → getD states x fresh ≡ finished
+unfolding firstUnfinished
+none-unfinished zero states i x h a b = absurd (omega arith)
+none-unfinished (suc n) states i x h a b = go (unfinished (getD states i fresh)) refl h (same-or-other i x) (none-unfinished n states (i + 1) x)
+  where
+    go : (t : Bool) → unfinished (getD states i fresh) ≡ t → i + suc n ≤ pick t i (firstUnfinished n states (i + 1)) → (i ≡ x) ⊎ (i ≢ x)
+        → (i + 1 + n ≤ firstUnfinished n states (i + 1) → i + 1 ≤ x → x < i + 1 + n → getD states x fresh ≡ finished) → getD states x fresh ≡ finished
+    go true u h e later = absurd (omega arith)
+    go false u h (inl e) later = subst (λ z. getD states z fresh ≡ finished) e (eqb-true _ _ (not-false _ u))
+    go false u h (inr d) later = later (omega arith) (omega arith) (omega arith)
+
+module _ (width : ℕ) (narrow : width ≤ mostWires) (x : ℕ) (h : x < width) where
+  -- the state of line x
+  abbrev st : States → ℕ
+  st c = getD (c .lines) x fresh
+
+  -- the states are as many as the most wires, and that of line x is one of the three
+  record Stated (c : States) : Type 0 where
+    many : length (c .lines) ≡ mostWires
+    three : st c ≤ finished
+
+  same-line : (c : States) (l : Line) → x ≡ l .0 → lineState c l ≡ st c
+  same-line c l e = ap (λ (z : ℕ). getD (c .lines) z fresh) (sym e)
+
+  stored : (ls : List ℕ) (y state : ℕ) → length ls ≡ mostWires → x ≡ y → getD (set ls y state) x fresh ≡ state
+  stored ls y state m e = subst (λ z. getD (set ls z state) x fresh ≡ state) e (getD-set-same ls x state fresh (omega arith))
+
+  kept : (ls : List ℕ) (y state : ℕ) → x ≢ y → getD (set ls y state) x fresh ≡ getD ls x fresh
+  kept ls y state d = getD-set-other ls y x state fresh d
+
+  set-stated : (ls : List ℕ) (y state : ℕ) → length ls ≡ mostWires → getD ls x fresh ≤ finished → state ≤ finished → getD (set ls y state) x fresh ≤ finished
+  set-stated ls y state m t s = elim (same-or-other x y) [
+    | inl e ↦ (let z = stored ls y state m e in omega arith)
+    | inr d ↦ (let z = kept ls y state d in omega arith)
+  ]
+
+  stated-after : (c : States) (i : Instruction) → Stated c → Stated (advanceOf c i)
+  stated-after c (Reset l) s = record { many = length-set (c .lines) (l .0) inUse ∙ s .many; three = set-stated (c .lines) (l .0) inUse (s .many) (s .three) (omega arith) }
+  stated-after c (Measurement l b) s =
+      record { many = length-set (c .lines) (l .0) finished ∙ s .many; three = set-stated (c .lines) (l .0) finished (s .many) (s .three) (omega arith) }
+  stated-after c (Gate k l) s = s
+  stated-after c (AngledGate k l a) s = s
+  stated-after c (TwoLineGate k l m) s = s
+  stated-after c (AngledTwoLineGate k l m a) s = s
+
+  running : (c : States) (l : Line) → Stated c → Live width c l → x ≡ l .0 → st c ≡ inUse
+  running c l s v e =
+      let z = same-line c l e in
+      let p : lineState c l ≢ finished = v .1 .0 in
+      let q : lineState c l ≢ fresh = v .1 .1 in
+      let t = s .three in
+      omega (arith, p, q)
+
+  untouched : (y : ℕ) → x ≢ y → stands x (y ∷ []) ≡ false
+  untouched y d = refuted _ (λ t. elim (stands-in x (y ∷ []) t) [ inl e ↦ d e | inr z ↦ z ])
+
+  -- a gate on lines that are in use
+  gate-life : (c : States) (i : Instruction) (is : List Instruction) → isGate i ≡ true → (In x (linesOf i) → st c ≡ inUse) → Life x (st c) is
+      → Life x (st c) (i ∷ is)
+  gate-life c i is g running r = elim (true-or-false (touches x i)) [
+    | inl t ↦ (let e = running (stands-in x (linesOf i) t) in subst (λ n. Life x n (i ∷ is)) (sym e) (works t g (subst (λ n. Life x n is) e r)))
+    | inr t ↦ apart t r
+  ]
+
+  one-running : (c : States) (l : Line) → Stated c → Live width c l → In x (l .0 ∷ []) → st c ≡ inUse
+  one-running c l s v (inl e) = running c l s v e
+
+  two-running : (c : States) (l m : Line) → Stated c → Live width c l → Live width c m → In x (l .0 ∷ m .0 ∷ []) → st c ≡ inUse
+  two-running c l m s u v (inl e) = running c l s u e
+  two-running c l m s u v (inr (inl e)) = running c m s v e
+
+  -- one instruction before the rest of a life
+  life-step : (c : States) (i : Instruction) (is : List Instruction) → judgeOf width width c i ≡ passed → Stated c → Life x (st (advanceOf c i)) is
+      → Life x (st c) (i ∷ is)
+  life-step c (Reset l) is j s r = elim (same-or-other x (l .0)) [
+    | inl e ↦
+        let p = reset-passed width c l j in
+        let a : lineState c l ≢ finished = p .1 in
+        let b : lineState c l ≢ inUse = p .2 in
+        let z = same-line c l e in
+        let t = s .three in
+        let f : st c ≡ fresh = omega (arith, a, b) in
+        subst (λ n. Life x n (Reset l ∷ is)) (sym f) (begins (eq-eqb x (l .0) e) (subst (λ n. Life x n is) (stored (c .lines) (l .0) inUse (s .many) e) r))
+    | inr d ↦ apart (untouched (l .0) d) (subst (λ n. Life x n is) (kept (c .lines) (l .0) inUse d) r)
+  ]
+  life-step c (Measurement l b) is j s r = elim (same-or-other x (l .0)) [
+    | inl e ↦
+        let f = running c l s (measurement-passed width c l b j .0) e in
+        subst (λ n. Life x n (Measurement l b ∷ is)) (sym f)
+        (ends (eq-eqb x (l .0) e) (subst (λ n. Life x n is) (stored (c .lines) (l .0) finished (s .many) e) r))
+    | inr d ↦ apart (untouched (l .0) d) (subst (λ n. Life x n is) (kept (c .lines) (l .0) finished d) r)
+  ]
+  life-step c (Gate k l) is j s r = gate-life c (Gate k l) is refl (one-running c l s (gate-passed width c l j)) r
+  life-step c (AngledGate k l a) is j s r = gate-life c (AngledGate k l a) is refl (one-running c l s (gate-passed width c l j)) r
+  life-step c (TwoLineGate k l m) is j s r =
+      let p = two-passed width c l m j in
+      gate-life c (TwoLineGate k l m) is refl (two-running c l m s (p .0) (p .1)) r
+  life-step c (AngledTwoLineGate k l m a) is j s r =
+      let p = two-passed width c l m j in
+      gate-life c (AngledTwoLineGate k l m a) is refl (two-running c l m s (p .0) (p .1)) r
+
+  -- from any states on, line x lives to its end
+  lives-from : {c : States} {is : List Instruction} → Passes width c is → Stated c → Life x (st c) is
+  lives-from (none {c} e) s = subst (λ n. Life x n []) (sym (none-unfinished width (c .lines) 0 x (omega arith) (omega arith) (omega arith))) over
+  lives-from (also {c} {i} {is} j p) s = life-step c i is j s (lives-from p (stated-after c i s))
+
+  -- each line below the width has its reset first and its measurement last, one of each, with gates between
+  pub passes-life : {is : List Instruction} → Passes width freshStates is → Life x fresh is
+  passes-life {is} p =
+      let z : st freshStates ≡ fresh = getD-replicate mostWires x fresh fresh (omega arith) in
+      subst (λ n. Life x n is) z (lives-from p (record { many = refl; three = omega arith }))
+
+-- ## Lines and bits
+
+-- every line named is below the width
+pub passes-below : {width : ℕ} {c : States} {is : List Instruction} → Passes width c is
+    → (k : ℕ) (i : Instruction) → getElem? is k ≡ some i → (x : ℕ) → In x (linesOf i) → x < width
+passes-below (none e) k i z = absurd (let z : _≡_ {A = ℕ} 0 1 = cc in omega arith)
+passes-below {width} (also {c} {i} j p) zero a z = let e : i ≡ a = cc in named-below width c a (subst (λ b. judgeOf width width c b ≡ passed) e j)
+passes-below (also j p) (suc k) a z = passes-below p k a z
+
+-- an instruction names no line twice: the lines of a gate on two are different
+pub passes-once : {width : ℕ} {c : States} {is : List Instruction} → Passes width c is
+    → (k : ℕ) (i : Instruction) → getElem? is k ≡ some i → Once (linesOf i)
+passes-once (none e) k i z = absurd (let z : _≡_ {A = ℕ} 0 1 = cc in omega arith)
+passes-once {width} (also {c} {i} j p) zero a z = let e : i ≡ a = cc in named-once width c a (subst (λ b. judgeOf width width c b ≡ passed) e j)
+passes-once (also j p) (suc k) a z = passes-once p k a z
