@@ -3,7 +3,7 @@
 use Prim.Native.Nat.{ℕ, zero, suc, _+_, _≤_, _<_}
 use mathlib.Core.Path.{_≡_, refl, sym, ap, subst, _∙_}
 use mathlib.Core.Logic.{_⊎_, inl, inr, _≢_}
-use mathlib.Core.Bool.{Bool, true, false}
+use mathlib.Core.Bool.{Bool, true, false, false≢true}
 use mathlib.Core.List.{List, [], _∷_}
 use mathlib.Core.Option.{Option, none, some}
 use native.Mathlib.Omega.{arith}
@@ -206,11 +206,15 @@ module _ (width : ℕ) (narrow : width ≤ mostWires) (x : ℕ) (h : x < width) 
   lives-from (none {c} e) s = subst (λ n. Life x n []) (sym (none-unfinished width (c .lines) 0 x (omega arith) (omega arith) (omega arith))) over
   lives-from (also {c} {i} {is} j p) s = life-step c i is j s (lives-from p (stated-after c i s))
 
+  fresh-state : st freshStates ≡ fresh
+  fresh-state = getD-replicate mostWires x fresh fresh (omega arith)
+
+  fresh-stated : Stated freshStates
+  fresh-stated = let e = fresh-state in record { many = refl; three = omega arith }
+
   -- each line below the width has its reset first and its measurement last, one of each, with gates between
   pub passes-life : {is : List Instruction} → Passes width freshStates is → Life x fresh is
-  passes-life {is} p =
-      let z : st freshStates ≡ fresh = getD-replicate mostWires x fresh fresh (omega arith) in
-      subst (λ n. Life x n is) z (lives-from p (record { many = refl; three = omega arith }))
+  passes-life {is} p = subst (λ n. Life x n is) fresh-state (lives-from p fresh-stated)
 
 -- ## Lines and bits
 
@@ -227,3 +231,138 @@ pub passes-once : {width : ℕ} {c : States} {is : List Instruction} → Passes 
 passes-once (none e) k i z = absurd (let z : _≡_ {A = ℕ} 0 1 = cc in omega arith)
 passes-once {width} (also {c} {i} j p) zero a z = let e : i ≡ a = cc in named-once width c a (subst (λ b. judgeOf width width c b ≡ passed) e j)
 passes-once (also j p) (suc k) a z = passes-once p k a z
+
+module _ (width : ℕ) (narrow : width ≤ mostWires) where
+  -- a bit that is still to receive is below the width and not used, and none receives twice
+  abbrev Awaited : States → List Instruction → Type 0
+  Awaited c is = ((b : ℕ) → In b (bitsOf is) → (b < width) × (getD (c .bits) b 0 ≢ used)) × Once (bitsOf is)
+
+  received : (c : States) (b : Bit) (is : List Instruction) → length (c .bits) ≡ mostWires → b .0 < width → bitState c b ≢ used
+      → ((a : ℕ) → In a (bitsOf is) → (a < width) × (getD (set (c .bits) (b .0) used) a 0 ≢ used))
+      → (a : ℕ) → In a (bitsOf is) → (a ≢ b .0) × (getD (c .bits) a 0 ≢ used)
+  received c b is m l f later a h =
+      let n : a ≢ b .0 = λ e. later a h .1 (subst (λ z. getD (set (c .bits) (b .0) used) z 0 ≡ used) (sym e) (getD-set-same (c .bits) (b .0) used 0 (omega arith))) in
+      (n, λ e. later a h .1 (getD-set-other (c .bits) (b .0) a used 0 n ∙ e))
+
+  awaited : {c : States} {is : List Instruction} → Passes width c is → length (c .bits) ≡ mostWires → Awaited c is
+  awaited (none e) m = (λ b h. absurd h, tt)
+  awaited (also {c} {i = Measurement l b} {is} j p) m =
+      let q = measurement-passed width c l b j in
+      let r = awaited p (length-set (c .bits) (b .0) used ∙ m) in
+      let g = received c b is m (q .1) (q .2) (r .0) in (
+        λ a h. elim h [ inl e ↦ (subst (λ z. z < width) (sym e) (q .1), subst (λ z. getD (c .bits) z 0 ≢ used) (sym e) (q .2)) | inr t ↦ (r .0 a t .0, g a t .1) ],
+        (λ h. g (b .0) h .0 refl, r .1),
+      )
+  awaited (also {c} {i = Reset l} j p) m = awaited p m
+  awaited (also {c} {i = Gate k l} j p) m = awaited p m
+  awaited (also {c} {i = AngledGate k l a} j p) m = awaited p m
+  awaited (also {c} {i = TwoLineGate k l n} j p) m = awaited p m
+  awaited (also {c} {i = AngledTwoLineGate k l n a} j p) m = awaited p m
+
+-- the lines that are measured, in order
+abbrev measuredOf : List Instruction → List ℕ
+measuredOf [] = []
+measuredOf (Measurement l b ∷ is) = l .0 ∷ measuredOf is
+measuredOf (Reset l ∷ is) = measuredOf is
+measuredOf (Gate k l ∷ is) = measuredOf is
+measuredOf (AngledGate k l a ∷ is) = measuredOf is
+measuredOf (TwoLineGate k l m ∷ is) = measuredOf is
+measuredOf (AngledTwoLineGate k l m a ∷ is) = measuredOf is
+
+same-count : (is : List Instruction) → length (measuredOf is) ≡ length (bitsOf is)
+same-count [] = refl
+same-count (Measurement l b ∷ is) = ap suc (same-count is)
+same-count (Reset l ∷ is) = same-count is
+same-count (Gate k l ∷ is) = same-count is
+same-count (AngledGate k l a ∷ is) = same-count is
+same-count (TwoLineGate k l m ∷ is) = same-count is
+same-count (AngledTwoLineGate k l m a ∷ is) = same-count is
+
+module _ (x : ℕ) where
+  measured-now : (i : Instruction) (is : List Instruction) → measures x i ≡ true → In x (measuredOf (i ∷ is))
+  measured-now (Measurement l b) is h = inl (eqb-true x (l .0) h)
+  measured-now (Reset l) is h = absurd (false≢true h)
+  measured-now (Gate k l) is h = absurd (false≢true h)
+  measured-now (AngledGate k l a) is h = absurd (false≢true h)
+  measured-now (TwoLineGate k l m) is h = absurd (false≢true h)
+  measured-now (AngledTwoLineGate k l m a) is h = absurd (false≢true h)
+
+  measured-later : (i : Instruction) (is : List Instruction) → In x (measuredOf is) → In x (measuredOf (i ∷ is))
+  measured-later (Measurement l b) is h = inr h
+  measured-later (Reset l) is h = h
+  measured-later (Gate k l) is h = h
+  measured-later (AngledGate k l a) is h = h
+  measured-later (TwoLineGate k l m) is h = h
+  measured-later (AngledTwoLineGate k l m a) is h = h
+
+  measured-cases : (i : Instruction) (is : List Instruction) → In x (measuredOf (i ∷ is)) → In x (linesOf i) ⊎ In x (measuredOf is)
+  measured-cases (Measurement l b) is (inl e) = inl (inl e)
+  measured-cases (Measurement l b) is (inr h) = inr h
+  measured-cases (Reset l) is h = inr h
+  measured-cases (Gate k l) is h = inr h
+  measured-cases (AngledGate k l a) is h = inr h
+  measured-cases (TwoLineGate k l m) is h = inr h
+  measured-cases (AngledTwoLineGate k l m a) is h = inr h
+
+  -- a line that is not finished will be measured
+  life-measured : {n : ℕ} {is : List Instruction} → Life x n is → n ≤ inUse → In x (measuredOf is)
+  life-measured over h = absurd (omega arith)
+  life-measured (apart {i = i} {is = is} t r) h = measured-later i is (life-measured r h)
+  life-measured (begins {i} {is} t r) h = measured-later i is (life-measured r (omega arith))
+  life-measured (works {i} {is} t g r) h = measured-later i is (life-measured r h)
+  life-measured (ends {i} {is} t r) h = measured-now i is t
+
+  -- and one that is finished will not
+  life-finished : {n : ℕ} {is : List Instruction} → Life x n is → n ≡ finished → ¬ In x (measuredOf is)
+  life-finished over e h = h
+  life-finished (apart {i = i} {is = is} t r) e h = elim (measured-cases i is h) [
+    | inl g ↦ not-both (touches x i) (in-stands x (linesOf i) g) t
+    | inr g ↦ life-finished r e g
+  ]
+  life-finished (begins t r) e h = omega arith
+  life-finished (works t g r) e h = omega arith
+  life-finished (ends t r) e h = omega arith
+
+module _ (width : ℕ) (narrow : width ≤ mostWires) where
+  abbrev AllStated : States → Type 0
+  AllStated c = (x : ℕ) (h : x < width) → Stated width narrow x h c
+
+  measured-once : {c : States} {is : List Instruction} → Passes width c is → AllStated c → Once (measuredOf is)
+  measured-once (none e) s = tt
+  measured-once (also {c} {i = Measurement l b} {is} j p) s =
+      let h = measurement-passed width c l b j .0 .0 in
+      let r = lives-from width narrow (l .0) h p (stated-after width narrow (l .0) h c (Measurement l b) (s (l .0) h)) in
+      let z = stored width narrow (l .0) h (c .lines) (l .0) finished (s (l .0) h .many) refl in
+      (life-finished (l .0) r z, measured-once p (λ x h. stated-after width narrow x h c (Measurement l b) (s x h)))
+  measured-once (also {c} {i = Reset l} j p) s = measured-once p (λ x h. stated-after width narrow x h c (Reset l) (s x h))
+  measured-once (also {c} {i = Gate k l} j p) s = measured-once p s
+  measured-once (also {c} {i = AngledGate k l a} j p) s = measured-once p s
+  measured-once (also {c} {i = TwoLineGate k l m} j p) s = measured-once p s
+  measured-once (also {c} {i = AngledTwoLineGate k l m a} j p) s = measured-once p s
+
+  measured-below : {c : States} {is : List Instruction} → Passes width c is → (x : ℕ) → In x (measuredOf is) → x < width
+  measured-below (none e) x h = absurd h
+  measured-below (also {c} {i} {is} j p) x h = elim (measured-cases x i is h) [ inl g ↦ named-below width c i j x g | inr g ↦ measured-below p x g ]
+
+  module _ {is : List Instruction} (p : Passes width freshStates is) where
+    -- one measurement for each line below the width
+    measured-order : Order width (measuredOf is)
+    measured-order = record {
+      all = λ x h. life-measured x (passes-life width narrow x h p) (omega arith);
+      only = measured-below p;
+      once = measured-once p (λ x h. fresh-stated width narrow x h);
+    }
+
+    -- so as many bits receive one as there are wires
+    pub passes-count : length (bitsOf is) ≡ width
+    passes-count = sym (same-count is) ∙ order-length width (measuredOf is) measured-order
+
+    -- each bit below the width receives one measurement, and no other bit does
+    pub passes-bits : Order width (bitsOf is)
+    passes-bits =
+        let a = awaited width narrow p refl in
+        record {
+          all = once-full width (bitsOf is) (a .1) (λ b h. a .0 b h .0) passes-count;
+          only = λ b h. a .0 b h .0;
+          once = a .1;
+        }
