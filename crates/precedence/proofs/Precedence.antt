@@ -1,0 +1,310 @@
+-- The precedence of a valid circuit is lawful: a wire's reset is the first of its instructions and its measurement the last, by the life of the
+-- wire. Assumes nothing.
+use Prim.Native.Nat.{ℕ, zero, suc, _≤_, _<_}
+use mathlib.Core.Path.{_≡_, refl, sym, ap, subst, _∙_}
+use mathlib.Core.Logic.{_⊎_, inl, inr, _↔_, _≢_}
+use mathlib.Core.Bool.{Bool, true, false, _&&_, false≢true}
+use mathlib.Core.List.{List, [], _∷_}
+use mathlib.Core.Option.{Option, none, some}
+use native.Mathlib.Omega.{arith}
+use lib.ListN.{length, getElem?}
+use lib.Dec.{ltb}
+use borrow.Author.Tests.{eqb-true, eq-eqb, ltb-true, lt-ltb}
+use Rattle.basics.specs.Outcome.{done}
+use Rattle.basics.proofs.Tests.{not-both, both, and-intro, true-or-false, refuted}
+use Rattle.orders.specs.Indices.{In, any}
+use Rattle.orders.specs.Runs.{Lawful}
+use Rattle.orders.proofs.Indices.{any-in, any-which, stands-in, in-stands}
+use Rattle.records.specs.Records.{line}
+use Rattle.records.specs.declared.numbers.Line.{Line}
+use Rattle.records.specs.declared.numbers.Bit.{Bit}
+use Rattle.records.specs.declared.instructions.Instruction.{Instruction}
+use Rattle.records.specs.declared.instructions.Instruction.the-variants.{Reset, Measurement, Gate, AngledGate, TwoLineGate, AngledTwoLineGate}
+use Rattle.circuits.specs.Judging.{fresh, inUse, finished}
+use Rattle.circuits.specs.Reading.{Static, readCircuit}
+use Rattle.circuits.specs.Validity.{Valid}
+use Rattle.circuits.proofs.Validity.{read-valid}
+use Rattle.precedence.specs.Lives.{linesOf, touches, resets, measures, isGate, Life, over, apart, begins, works, ends}
+use Rattle.precedence.specs.Precedence.{holds, at, on, linesIn, linesAt, firstOf, resetOf, measOf, mustOn, prec, wire, circuitOf, Wired, Spans}
+use Rattle.precedence.proofs.Lives.{passes-below, passes-life}
+
+-- ## The reset and the measurement of a line
+
+-- an instruction that resets x is the reset of x
+pub reset-is : (x : ℕ) (i : Instruction) → resets x i ≡ true → i ≡ Reset (line x)
+reset-is x (Reset l) h = ap (λ (z : ℕ). Reset (line z)) (sym (eqb-true x (l .0) h))
+reset-is x (Measurement l b) h = absurd (false≢true h)
+reset-is x (Gate k l) h = absurd (false≢true h)
+reset-is x (AngledGate k l a) h = absurd (false≢true h)
+reset-is x (TwoLineGate k l m) h = absurd (false≢true h)
+reset-is x (AngledTwoLineGate k l m a) h = absurd (false≢true h)
+
+pub meas-is : (x : ℕ) (i : Instruction) → measures x i ≡ true → (b : Bit) × (i ≡ Measurement (line x) b)
+meas-is x (Measurement l b) h = (b, ap (λ (z : ℕ). Measurement (line z) b) (sym (eqb-true x (l .0) h)))
+meas-is x (Reset l) h = absurd (false≢true h)
+meas-is x (Gate k l) h = absurd (false≢true h)
+meas-is x (AngledGate k l a) h = absurd (false≢true h)
+meas-is x (TwoLineGate k l m) h = absurd (false≢true h)
+meas-is x (AngledTwoLineGate k l m a) h = absurd (false≢true h)
+
+module _ (x : ℕ) where
+  reset-touches : (i : Instruction) → resets x i ≡ true → touches x i ≡ true
+  reset-touches i h = subst (λ j. touches x j ≡ true) (sym (reset-is x i h)) (in-stands x (x ∷ []) (inl refl))
+
+  meas-touches : (i : Instruction) → measures x i ≡ true → touches x i ≡ true
+  meas-touches i h = let e = meas-is x i h in subst (λ j. touches x j ≡ true) (sym (e .1)) (in-stands x (x ∷ []) (inl refl))
+
+  -- what is not on x neither resets nor measures it
+  apart-reset : (i : Instruction) → touches x i ≡ false → resets x i ≡ false
+  apart-reset i t = refuted (resets x i) (λ h. not-both (touches x i) (reset-touches i h) t)
+
+  apart-meas : (i : Instruction) → touches x i ≡ false → measures x i ≡ false
+  apart-meas i t = refuted (measures x i) (λ h. not-both (touches x i) (meas-touches i h) t)
+
+  -- a gate neither resets nor measures
+  gate-no-reset : (i : Instruction) → isGate i ≡ true → resets x i ≡ false
+  gate-no-reset i g = refuted (resets x i) (λ h. false≢true (subst (λ j. isGate j ≡ true) (reset-is x i h) g))
+
+  gate-no-meas : (i : Instruction) → isGate i ≡ true → measures x i ≡ false
+  gate-no-meas i g = refuted (measures x i) (λ h. (let e = meas-is x i h in false≢true (subst (λ j. isGate j ≡ true) (e .1) g)))
+
+  reset-no-meas : (i : Instruction) → resets x i ≡ true → measures x i ≡ false
+  reset-no-meas i r = subst (λ j. measures x j ≡ false) (sym (reset-is x i r)) refl
+
+  meas-no-reset : (i : Instruction) → measures x i ≡ true → resets x i ≡ false
+  meas-no-reset i m = let e = meas-is x i m in subst (λ j. resets x j ≡ false) (sym (e .1)) refl
+
+-- ## Indices
+
+at-more : (p q : Instruction → Bool) → ((i : Instruction) → p i ≡ true → q i ≡ true) → (is : List Instruction) (k : ℕ) → at p is k ≡ true → at q is k ≡ true
+at-more p q m is k = go (getElem? is k)
+  where
+    go : (o : Option Instruction) → holds p o ≡ true → holds q o ≡ true
+    go none h = absurd (false≢true h)
+    go (some i) h = m i h
+
+-- the instruction that passes
+pub at-some : (p : Instruction → Bool) (is : List Instruction) (k : ℕ) → at p is k ≡ true → (i : Instruction) × (getElem? is k ≡ some i) × (p i ≡ true)
+at-some p is k = go (getElem? is k) refl
+  where
+    go : (o : Option Instruction) → getElem? is k ≡ o → holds p o ≡ true → (i : Instruction) × (getElem? is k ≡ some i) × (p i ≡ true)
+    go none e h = absurd (false≢true h)
+    go (some i) e h = (i, e, h)
+
+pub at-inside : (p : Instruction → Bool) (is : List Instruction) (k : ℕ) → at p is k ≡ true → k < length is
+at-inside p [] k h = absurd (false≢true h)
+at-inside p (i ∷ is) zero h = omega arith
+at-inside p (i ∷ is) (suc k) h = let r = at-inside p is k h in omega arith
+
+-- by cases on an index: the first instruction, or one behind it
+at-cases : (p : Instruction → Bool) (i : Instruction) (is : List Instruction) (P : ℕ → Type 0) → (p i ≡ true → P 0)
+    → ((k : ℕ) → at p is k ≡ true → P (suc k)) → (k : ℕ) → at p (i ∷ is) k ≡ true → P k
+at-cases p i is P now later zero h = now h
+at-cases p i is P now later (suc k) h = later k h
+
+first-now : (p : Instruction → Bool) (i : Instruction) (is : List Instruction) → p i ≡ true → firstOf p (i ∷ is) ≡ 0
+unfolding firstOf
+first-now p i is h = rw (h, firstOf)
+
+first-later : (p : Instruction → Bool) (i : Instruction) (is : List Instruction) → p i ≡ false → firstOf p (i ∷ is) ≡ suc (firstOf p is)
+unfolding firstOf
+first-later p i is h = rw (h, firstOf)
+
+-- what passes is not before the first that does
+first-least : (p : Instruction → Bool) (is : List Instruction) (k : ℕ) → at p is k ≡ true → firstOf p is ≤ k
+first-least p [] k h = absurd (false≢true h)
+first-least p (i ∷ is) zero h = let e = first-now p i is h in omega arith
+first-least p (i ∷ is) (suc k) h = let r = first-least p is k h in elim (true-or-false (p i)) [
+  | inl t ↦ (let e = first-now p i is t in omega arith)
+  | inr t ↦ (let e = first-later p i is t in omega arith)
+]
+
+-- ## From the life of a line to its indices
+
+module _ (x : ℕ) where
+  -- a finished line has no more instructions
+  life-quiet : {n : ℕ} {is : List Instruction} → Life x n is → n ≡ finished → (k : ℕ) → on is x k ≡ true → ⊥
+  life-quiet over e = λ k h. false≢true h
+  life-quiet (apart {i = i} {is = is} t r) e = at-cases (touches x) i is (λ k. ⊥) (λ h. not-both (touches x i) h t) (life-quiet r e)
+  life-quiet (begins t r) e = absurd (omega arith)
+  life-quiet (works t g r) e = absurd (omega arith)
+  life-quiet (ends t r) e = absurd (omega arith)
+
+  -- a line in use: its measurement is its last instruction, and it is not reset again
+  record Lasts (is : List Instruction) : Type 0 where
+    meas-at : at (measures x) is (measOf is x) ≡ true
+    last : (k : ℕ) → on is x k ≡ true → k ≤ measOf is x
+    no-reset : (k : ℕ) → at (resets x) is k ≡ true → ⊥
+
+  -- behind an instruction that does not measure x
+  lasts-behind : (i : Instruction) (is : List Instruction) → measures x i ≡ false → resets x i ≡ false → Lasts is → Lasts (i ∷ is)
+  lasts-behind i is m r l =
+      let e = first-later (measures x) i is m in
+      record {
+        meas-at = subst (λ k. at (measures x) (i ∷ is) k ≡ true) (sym e) (l .meas-at);
+        last = at-cases (touches x) i is (λ k. k ≤ measOf (i ∷ is) x) (λ h. omega arith) (λ k h. (let b = l .last k h in omega arith));
+        no-reset = at-cases (resets x) i is (λ k. ⊥) (λ h. not-both (resets x i) h r) (l .no-reset);
+      }
+
+  life-lasts : {n : ℕ} {is : List Instruction} → Life x n is → n ≡ inUse → Lasts is
+  life-lasts over e = absurd (omega arith)
+  life-lasts (apart {i = i} {is = is} t r) e = lasts-behind i is (apart-meas x i t) (apart-reset x i t) (life-lasts r e)
+  life-lasts (begins t r) e = absurd (omega arith)
+  life-lasts (works {i} {is} t g r) e = lasts-behind i is (gate-no-meas x i g) (gate-no-reset x i g) (life-lasts r refl)
+  life-lasts (ends {i} {is} t r) e =
+      let z = first-now (measures x) i is t in
+      let quiet = life-quiet r refl in
+      record {
+        meas-at = subst (λ k. at (measures x) (i ∷ is) k ≡ true) (sym z) t;
+        last = at-cases (touches x) i is (λ k. k ≤ measOf (i ∷ is) x) (λ h. omega arith) (λ k h. absurd (quiet k h));
+        no-reset = at-cases (resets x) i is (λ k. ⊥) (λ h. not-both (resets x i) h (meas-no-reset x i t)) (λ k h. quiet k (at-more _ _ (reset-touches x) is k h));
+      }
+
+  -- the first that measures x, where it is the last on x, is the only one
+  only-meas : (is : List Instruction) → ((k : ℕ) → on is x k ≡ true → k ≤ measOf is x) → (k : ℕ) → at (measures x) is k ≡ true → k ≡ measOf is x
+  only-meas is last k h = let a = last k (at-more _ _ (meas-touches x) is k h) in let b = first-least (measures x) is k h in omega arith
+
+  pub life-spans : {n : ℕ} {is : List Instruction} → Life x n is → n ≡ fresh → Spans is x
+  life-spans over e = absurd (omega arith)
+  life-spans (apart {i = i} {is = is} t r) e =
+      let s = life-spans r e in
+      let a = first-later (resets x) i is (apart-reset x i t) in
+      let z = first-later (measures x) i is (apart-meas x i t) in
+      record {
+        reset-at = subst (λ k. at (resets x) (i ∷ is) k ≡ true) (sym a) (s .reset-at);
+        meas-at = subst (λ k. at (measures x) (i ∷ is) k ≡ true) (sym z) (s .meas-at);
+        first = at-cases (touches x) i is (λ k. resetOf (i ∷ is) x ≤ k) (λ h. absurd (not-both (touches x i) h t)) (λ k h. (let b = s .first k h in omega arith));
+        last = at-cases (touches x) i is (λ k. k ≤ measOf (i ∷ is) x) (λ h. omega arith) (λ k h. (let b = s .last k h in omega arith));
+        one-reset = at-cases (resets x) i is (λ k. k ≡ resetOf (i ∷ is) x) (λ h. absurd (not-both (resets x i) h (apart-reset x i t)))
+          (λ k h. (let b = s .one-reset k h in omega arith));
+        one-meas = at-cases (measures x) i is (λ k. k ≡ measOf (i ∷ is) x) (λ h. absurd (not-both (measures x i) h (apart-meas x i t)))
+          (λ k h. (let b = s .one-meas k h in omega arith));
+      }
+  life-spans (begins {i} {is} t r) e =
+      let l = life-lasts r refl in
+      let a = first-now (resets x) i is t in
+      let z = first-later (measures x) i is (reset-no-meas x i t) in
+      record {
+        reset-at = subst (λ k. at (resets x) (i ∷ is) k ≡ true) (sym a) t;
+        meas-at = subst (λ k. at (measures x) (i ∷ is) k ≡ true) (sym z) (l .meas-at);
+        first = λ k h. omega arith;
+        last = at-cases (touches x) i is (λ k. k ≤ measOf (i ∷ is) x) (λ h. omega arith) (λ k h. (let b = l .last k h in omega arith));
+        one-reset = at-cases (resets x) i is (λ k. k ≡ resetOf (i ∷ is) x) (λ h. sym a) (λ k h. absurd (l .no-reset k h));
+        one-meas = at-cases (measures x) i is (λ k. k ≡ measOf (i ∷ is) x) (λ h. absurd (not-both (measures x i) h (reset-no-meas x i t)))
+          (λ k h. (let b = only-meas is (l .last) k h in omega arith));
+      }
+  life-spans (works t g r) e = absurd (omega arith)
+  life-spans (ends t r) e = absurd (omega arith)
+
+-- ## Precedence
+
+module _ (is : List Instruction) where
+  -- line x forces i before j exactly when i stands before j and both are on x
+  pub must-exactly : (x i j : ℕ) → (mustOn is x i j ≡ true) ↔ ((i < j) × (on is x i ≡ true) × (on is x j ≡ true))
+  unfolding mustOn
+  must-exactly x i j = (
+    λ h. (let a = both (ltb i j) (on is x i && on is x j) h in let b = both (on is x i) (on is x j) (a .1) in (ltb-true i j (a .0), b .0, b .1)),
+    λ r. and-intro (ltb i j) (on is x i && on is x j) (lt-ltb i j (r .0)) (and-intro (on is x i) (on is x j) (r .1) (r .2)),
+  )
+
+  -- what an index is on, is among its lines
+  on-lines : (x k : ℕ) → on is x k ≡ true → In x (linesAt is k)
+  on-lines x k = go (getElem? is k)
+    where
+      go : (o : Option Instruction) → holds (touches x) o ≡ true → In x (linesIn o)
+      go none h = absurd (false≢true h)
+      go (some i) h = stands-in x (linesOf i) h
+
+  -- i must come before j exactly when some line forces it
+  pub prec-exactly : (i j : ℕ) → (prec is i j ≡ true) ↔ ((x : ℕ) × (mustOn is x i j ≡ true))
+  unfolding prec
+  prec-exactly i j = (
+    λ h. (let r = any-which (λ x. mustOn is x i j) (linesAt is i) h in (r .0, r .2)),
+    λ r. any-in (λ x. mustOn is x i j) (r .0) (linesAt is i) (on-lines (r .0) i (must-exactly (r .0) i j .0 (r .1) .1)) (r .1),
+  )
+
+  pub on-prec : (x i j : ℕ) → i < j → on is x i ≡ true → on is x j ≡ true → prec is i j ≡ true
+  on-prec x i j l a b = prec-exactly i j .1 (x, must-exactly x i j .1 (l, a, b))
+
+-- ## The laws of a valid circuit
+
+pub valid-wired : (s : List ℕ) (c : Static) → Valid s c → Wired c
+valid-wired s c v = record {
+  named = λ x k h. (let r = at-some (touches x) (c .steps) k h in lt-ltb x (c .width) (passes-below (v .passes) k (r .0) (r .1) x (stands-in x (linesOf (r .0)) (r .2))));
+  lives = λ x h. passes-life (c .width) (v .narrow) x (ltb-true x (c .width) h) (v .passes);
+}
+
+pub read-wired : (s : List ℕ) {c : Static} → readCircuit s ≡ done c → Wired c
+read-wired s {c} e = valid-wired s c (read-valid s e)
+
+module _ (c : Static) (wired : Wired c) where
+  pub spans : (x : ℕ) → wire c x ≡ true → Spans (c .steps) x
+  spans x h = life-spans x (wired .lives x h) refl
+
+  module _ (x : ℕ) (h : wire c x ≡ true) where
+    -- the instruction at a wire's reset is its reset, and the one at its measurement its measurement
+    pub reset-there : getElem? (c .steps) (resetOf (c .steps) x) ≡ some (Reset (line x))
+    reset-there = let r = at-some (resets x) (c .steps) (resetOf (c .steps) x) (spans x h .reset-at) in r .1 ∙ ap some (reset-is x (r .0) (r .2))
+
+    pub meas-there : (b : Bit) × (getElem? (c .steps) (measOf (c .steps) x) ≡ some (Measurement (line x) b))
+    meas-there =
+        let r = at-some (measures x) (c .steps) (measOf (c .steps) x) (spans x h .meas-at) in
+        let m = meas-is x (r .0) (r .2) in
+        (m .0, r .1 ∙ ap some (m .1))
+
+    pub reset-on : on (c .steps) x (resetOf (c .steps) x) ≡ true
+    reset-on = at-more (resets x) (touches x) (reset-touches x) (c .steps) (resetOf (c .steps) x) (spans x h .reset-at)
+
+    pub meas-on : on (c .steps) x (measOf (c .steps) x) ≡ true
+    meas-on = at-more (measures x) (touches x) (meas-touches x) (c .steps) (measOf (c .steps) x) (spans x h .meas-at)
+
+    -- what is at one index cannot be both
+    reset-not-meas : resetOf (c .steps) x ≢ measOf (c .steps) x
+    reset-not-meas e =
+        let r = reset-there in
+        let m = meas-there in
+        let q : some (Reset (line x)) ≡ some (Measurement (line x) (m .0)) = sym r ∙ (ap (getElem? (c .steps)) e ∙ m .1) in
+        let z : _≡_ {A = ℕ} 0 1 = cc in
+        omega arith
+
+    pub reset-before-meas : resetOf (c .steps) x < measOf (c .steps) x
+    reset-before-meas = let d = reset-not-meas in let l = spans x h .first (measOf (c .steps) x) meas-on in omega arith
+
+  -- the reset comes before every other instruction of its wire, and every other before the measurement
+  pub reset-prec : (x k : ℕ) → on (c .steps) x k ≡ true → k ≢ resetOf (c .steps) x → prec (c .steps) (resetOf (c .steps) x) k ≡ true
+  reset-prec x k o d =
+      let h = wired .named x k o in
+      let l = spans x h .first k o in
+      on-prec (c .steps) x (resetOf (c .steps) x) k (omega arith) (reset-on x h) o
+
+  pub prec-meas : (x k : ℕ) → on (c .steps) x k ≡ true → k ≢ measOf (c .steps) x → prec (c .steps) k (measOf (c .steps) x) ≡ true
+  prec-meas x k o d =
+      let h = wired .named x k o in
+      let l = spans x h .last k o in
+      on-prec (c .steps) x k (measOf (c .steps) x) (omega arith) o (meas-on x h)
+
+  -- different wires have different resets and different measurements
+  pub resets-apart : (x y : ℕ) → wire c x ≡ true → wire c y ≡ true → resetOf (c .steps) x ≡ resetOf (c .steps) y → x ≡ y
+  resets-apart x y h g e =
+      let q : some (Reset (line x)) ≡ some (Reset (line y)) = sym (reset-there x h) ∙ (ap (getElem? (c .steps)) e ∙ reset-there y g) in
+      let l : line x ≡ line y = cc in
+      ap (λ (m : Line). m .0) l
+
+  pub meas-apart : (x y : ℕ) → wire c x ≡ true → wire c y ≡ true → measOf (c .steps) x ≡ measOf (c .steps) y → x ≡ y
+  meas-apart x y h g e =
+      let a = meas-there x h in
+      let b = meas-there y g in
+      let q : some (Measurement (line x) (a .0)) ≡ some (Measurement (line y) (b .0)) = sym (a .1) ∙ (ap (getElem? (c .steps)) e ∙ b .1) in
+      let l : line x ≡ line y = cc in
+      ap (λ (m : Line). m .0) l
+
+  -- the precedence of a valid circuit is lawful
+  pub circuit-lawful : Lawful (circuitOf c)
+  circuit-lawful = record {
+    upward = λ i j h. (let r = prec-exactly (c .steps) i j .0 h in must-exactly (c .steps) (r .0) i j .0 (r .1) .0);
+    inside = λ i j h. (let r = prec-exactly (c .steps) i j .0 h in at-inside (touches (r .0)) (c .steps) j (must-exactly (c .steps) (r .0) i j .0 (r .1) .2));
+    low = λ x h. ltb-true x (c .width) h;
+    reset-in = λ x h. at-inside (touches x) (c .steps) (resetOf (c .steps) x) (reset-on x h);
+    meas-in = λ x h. at-inside (touches x) (c .steps) (measOf (c .steps) x) (meas-on x h);
+    spans = λ x h. on-prec (c .steps) x (resetOf (c .steps) x) (measOf (c .steps) x) (reset-before-meas x h) (reset-on x h) (meas-on x h);
+  }
