@@ -1,3 +1,4 @@
 pub mod Lives
 pub mod Precedence
 pub mod Starts
+pub mod Neighbours

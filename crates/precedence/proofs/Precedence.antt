@@ -208,7 +208,7 @@ module _ (is : List Instruction) where
   )
 
   -- what an index is on, is among its lines
-  on-lines : (x k : ℕ) → on is x k ≡ true → In x (linesAt is k)
+  pub on-lines : (x k : ℕ) → on is x k ≡ true → In x (linesAt is k)
   on-lines x k = go (getElem? is k)
     where
       go : (o : Option Instruction) → holds (touches x) o ≡ true → In x (linesIn o)
@@ -225,6 +225,9 @@ module _ (is : List Instruction) where
 
   pub on-prec : (x i j : ℕ) → i < j → on is x i ≡ true → on is x j ≡ true → prec is i j ≡ true
   on-prec x i j l a b = prec-exactly i j .1 (x, must-exactly x i j .1 (l, a, b))
+
+  pub prec-upward : (i j : ℕ) → prec is i j ≡ true → i < j
+  prec-upward i j h = let r = prec-exactly i j .0 h in must-exactly (r .0) i j .0 (r .1) .0
 
 -- ## The laws of a valid circuit
 
@@ -301,7 +304,7 @@ module _ (c : Static) (wired : Wired c) where
   -- the precedence of a valid circuit is lawful
   pub circuit-lawful : Lawful (circuitOf c)
   circuit-lawful = record {
-    upward = λ i j h. (let r = prec-exactly (c .steps) i j .0 h in must-exactly (c .steps) (r .0) i j .0 (r .1) .0);
+    upward = prec-upward (c .steps);
     inside = λ i j h. (let r = prec-exactly (c .steps) i j .0 h in at-inside (touches (r .0)) (c .steps) j (must-exactly (c .steps) (r .0) i j .0 (r .1) .2));
     low = λ x h. ltb-true x (c .width) h;
     reset-in = λ x h. at-inside (touches x) (c .steps) (resetOf (c .steps) x) (reset-on x h);

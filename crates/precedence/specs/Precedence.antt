@@ -1,13 +1,13 @@
 -- The precedence of a static circuit's instructions, by their indices: what must come before what, each wire's reset and measurement, the
 -- document's graph of neighbours, and the circuit that the laws of crate `orders` speak of. Definitions alone.
-use Prim.Native.Nat.{ℕ, suc, _≤_}
+use Prim.Native.Nat.{ℕ, suc, _-_, _≤_}
 use mathlib.Core.Path.{_≡_}
 use mathlib.Core.Bool.{Bool, true, false, not, _&&_}
 use mathlib.Core.List.{List, [], _∷_}
 use mathlib.Core.Option.{Option, none, some}
 use lib.ListN.{length, getElem?}
 use lib.Dec.{ltb}
-use Rattle.orders.specs.Indices.{any}
+use Rattle.orders.specs.Indices.{any, from}
 use Rattle.orders.specs.Runs.{Circuit}
 use Rattle.records.specs.declared.instructions.Instruction.{Instruction}
 use Rattle.circuits.specs.Judging.{fresh}
@@ -69,6 +69,27 @@ circuitOf c = record {
   size = length (c .steps);
   width = c .width;
   prec = prec (c .steps);
+  wire = wire c;
+  resetOf = resetOf (c .steps);
+  measOf = measOf (c .steps);
+}
+
+-- ## The graph of neighbours
+
+-- i and j are neighbours on line x: it forces i before j, and no instruction between them is on it
+unfoldable pub nextOn : List Instruction → ℕ → ℕ → ℕ → Bool
+nextOn is x i j = mustOn is x i j && not (any (on is x) (from (suc i) (j - suc i)))
+
+-- i and j are neighbours on some line
+unfoldable pub neighbours : List Instruction → ℕ → ℕ → Bool
+neighbours is i j = any (λ x. nextOn is x i j) (linesAt is i)
+
+-- the same circuit with the document's arrows: those between neighbouring instructions of each wire
+abbrev pub drawnOf : Static → Circuit
+drawnOf c = record {
+  size = length (c .steps);
+  width = c .width;
+  prec = neighbours (c .steps);
   wire = wire c;
   resetOf = resetOf (c .steps);
   measOf = measOf (c .steps);
