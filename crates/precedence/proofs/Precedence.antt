@@ -4,7 +4,7 @@ use Prim.Native.Nat.{ℕ, zero, suc, _≤_, _<_}
 use mathlib.Core.Path.{_≡_, refl, sym, ap, subst, _∙_}
 use mathlib.Core.Logic.{_⊎_, inl, inr, _↔_, _≢_}
 use mathlib.Core.Bool.{Bool, true, false, _&&_, false≢true}
-use mathlib.Core.List.{List, [], _∷_}
+use mathlib.Core.List.{List, [], _∷_, _++_}
 use mathlib.Core.Option.{Option, none, some}
 use native.Mathlib.Omega.{arith}
 use lib.ListN.{length, getElem?}
@@ -48,10 +48,10 @@ meas-is x (TwoLineGate k l m) h = absurd (false≢true h)
 meas-is x (AngledTwoLineGate k l m a) h = absurd (false≢true h)
 
 module _ (x : ℕ) where
-  reset-touches : (i : Instruction) → resets x i ≡ true → touches x i ≡ true
+  pub reset-touches : (i : Instruction) → resets x i ≡ true → touches x i ≡ true
   reset-touches i h = subst (λ j. touches x j ≡ true) (sym (reset-is x i h)) (in-stands x (x ∷ []) (inl refl))
 
-  meas-touches : (i : Instruction) → measures x i ≡ true → touches x i ≡ true
+  pub meas-touches : (i : Instruction) → measures x i ≡ true → touches x i ≡ true
   meas-touches i h = let e = meas-is x i h in subst (λ j. touches x j ≡ true) (sym (e .1)) (in-stands x (x ∷ []) (inl refl))
 
   -- what is not on x neither resets nor measures it
@@ -76,7 +76,7 @@ module _ (x : ℕ) where
 
 -- ## Indices
 
-at-more : (p q : Instruction → Bool) → ((i : Instruction) → p i ≡ true → q i ≡ true) → (is : List Instruction) (k : ℕ) → at p is k ≡ true → at q is k ≡ true
+pub at-more : (p q : Instruction → Bool) → ((i : Instruction) → p i ≡ true → q i ≡ true) → (is : List Instruction) (k : ℕ) → at p is k ≡ true → at q is k ≡ true
 at-more p q m is k = go (getElem? is k)
   where
     go : (o : Option Instruction) → holds p o ≡ true → holds q o ≡ true
@@ -95,6 +95,16 @@ pub at-inside : (p : Instruction → Bool) (is : List Instruction) (k : ℕ) →
 at-inside p [] k h = absurd (false≢true h)
 at-inside p (i ∷ is) zero h = omega arith
 at-inside p (i ∷ is) (suc k) h = let r = at-inside p is k h in omega arith
+
+-- an index of the front part, and the one behind it
+pub at-front : (p : Instruction → Bool) (front back : List Instruction) (k : ℕ) → at p front k ≡ true → at p (front ++ back) k ≡ true
+at-front p [] back k h = absurd (false≢true h)
+at-front p (i ∷ front) back zero h = h
+at-front p (i ∷ front) back (suc k) h = at-front p front back k h
+
+pub at-seam : (p : Instruction → Bool) (front : List Instruction) (i : Instruction) (back : List Instruction) → at p (front ++ i ∷ back) (length front) ≡ p i
+at-seam p [] i back = refl
+at-seam p (j ∷ front) i back = at-seam p front i back
 
 -- by cases on an index: the first instruction, or one behind it
 at-cases : (p : Instruction → Bool) (i : Instruction) (is : List Instruction) (P : ℕ → Type 0) → (p i ≡ true → P 0)

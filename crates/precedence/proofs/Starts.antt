@@ -4,7 +4,7 @@ use Prim.Native.Nat.{ℕ, zero, suc, _+_, _<_}
 use mathlib.Core.Path.{_≡_, refl, sym, ap, subst, _∙_}
 use mathlib.Core.Logic.{_⊎_, inl, inr, _↔_, _≢_}
 use mathlib.Core.Bool.{Bool, true, false, not, _&&_, _||_, false≢true}
-use mathlib.Core.List.{List, [], _∷_}
+use mathlib.Core.List.{List, [], _∷_, _++_}
 use mathlib.Core.Option.{Option, none, some}
 use native.Mathlib.Omega.{arith}
 use lib.ListN.{length, getElem?}
@@ -18,6 +18,8 @@ use Rattle.orders.specs.Table.{Start}
 use Rattle.orders.proofs.Indices.{any-in, any-which, stands-in, in-stands}
 use Rattle.orders.proofs.Graph.{leads-trans, leads-more, arrow-prec, arrow-cases}
 use Rattle.records.specs.Records.{line}
+use Rattle.records.specs.declared.numbers.Angle.{Angle}
+use Rattle.records.specs.declared.numbers.Bit.{Bit}
 use Rattle.records.specs.declared.numbers.Line.{Line}
 use Rattle.records.specs.declared.instructions.Instruction.{Instruction}
 use Rattle.records.specs.declared.instructions.Instruction.the-variants.{Reset, Measurement, Gate, AngledGate, TwoLineGate, AngledTwoLineGate}
@@ -25,7 +27,78 @@ use Rattle.circuits.specs.Reading.{Static}
 use Rattle.precedence.specs.Lives.{linesOf, touches, resets}
 use Rattle.precedence.specs.Precedence.{holds, at, on, resetOf, measOf, prec, wire, circuitOf, Wired}
 use Rattle.precedence.specs.Starts.{Sets, noSets, readOn, leadingTo, after, pass, leadingSets, startOf}
-use Rattle.precedence.proofs.Precedence.{must-exactly, prec-exactly, on-prec, spans, meas-on, prec-meas, circuit-lawful}
+use Rattle.precedence.proofs.Precedence.{reset-touches, at-more, at-inside, at-front, at-seam, must-exactly, prec-exactly, on-prec, spans, meas-on, prec-meas, circuit-lawful}
+
+-- ## What each kind of instruction does to the sets, as a loop over rows has it
+
+-- with a, b: x is the first line, the second; p, q, r: t is in the set of the first, of the second, of x
+reset-test : (a e p r : Bool) → (a ≡ true → r ≡ p) → (r || ((a || false) && (e || (p || false)))) ≡ (r || (a && e))
+reset-test true true p r h = refl
+reset-test true false true r h = rw (h refl)
+reset-test true false false r h = refl
+reset-test false e p r h = refl
+
+one-test : (a p r : Bool) → (a ≡ true → r ≡ p) → (r || ((a || false) && (p || false))) ≡ r
+one-test true true r h = rw (h refl)
+one-test true false r h = rw (h refl)
+one-test false p true h = refl
+one-test false p false h = refl
+
+two-test : (a b p q r : Bool) → (a ≡ true → r ≡ p) → (b ≡ true → r ≡ q) → (r || ((a || (b || false)) && (p || (q || false)))) ≡ pick (a || b) (p || q) r
+two-test true b true q r h k = rw (h refl)
+two-test true b false true r h k = rw (h refl)
+two-test true b false false r h k = rw (h refl)
+two-test false true true true r h k = rw (k refl)
+two-test false true true false r h k = rw (k refl)
+two-test false true false true r h k = rw (k refl)
+two-test false true false false r h k = rw (k refl)
+two-test false false p q true h k = refl
+two-test false false p q false h k = refl
+
+module _ (s : Sets) (x t : ℕ) where
+  same-set : (y : ℕ) → eqb x y ≡ true → s x t ≡ s y t
+  same-set y e = ap (λ (z : ℕ). s z t) (eqb-true x y e)
+
+  -- a reset is added to the set of its line
+  pub after-reset : (l : Line) → after (Reset l) s x t ≡ (s x t || (eqb x (l .0) && eqb t (l .0)))
+  unfolding after leadingTo any stands
+  after-reset l = reset-test (eqb x (l .0)) (eqb t (l .0)) (s (l .0) t) (s x t) (same-set (l .0))
+
+  -- a measurement and a gate on one line change no set
+  pub after-measurement : (l : Line) (b : Bit) → after (Measurement l b) s x t ≡ s x t
+  unfolding after leadingTo any stands
+  after-measurement l b = one-test (eqb x (l .0)) (s (l .0) t) (s x t) (same-set (l .0))
+
+  pub after-gate : (k : ℕ) (l : Line) → after (Gate k l) s x t ≡ s x t
+  unfolding after leadingTo any stands
+  after-gate k l = one-test (eqb x (l .0)) (s (l .0) t) (s x t) (same-set (l .0))
+
+  pub after-angled-gate : (k : ℕ) (l : Line) (a : Angle) → after (AngledGate k l a) s x t ≡ s x t
+  unfolding after leadingTo any stands
+  after-angled-gate k l a = one-test (eqb x (l .0)) (s (l .0) t) (s x t) (same-set (l .0))
+
+  -- both lines of a gate on two get the union of their sets
+  pub after-two : (k : ℕ) (l m : Line) → after (TwoLineGate k l m) s x t ≡ pick (eqb x (l .0) || eqb x (m .0)) (s (l .0) t || s (m .0) t) (s x t)
+  unfolding after leadingTo any stands
+  after-two k l m = two-test (eqb x (l .0)) (eqb x (m .0)) (s (l .0) t) (s (m .0) t) (s x t) (same-set (l .0)) (same-set (m .0))
+
+  pub after-angled-two : (k : ℕ) (l m : Line) (a : Angle)
+      → after (AngledTwoLineGate k l m a) s x t ≡ pick (eqb x (l .0) || eqb x (m .0)) (s (l .0) t || s (m .0) t) (s x t)
+  unfolding after leadingTo any stands
+  after-angled-two k l m a = two-test (eqb x (l .0)) (eqb x (m .0)) (s (l .0) t) (s (m .0) t) (s x t) (same-set (l .0)) (same-set (m .0))
+
+-- instructions that are not on x leave its set
+pass-apart : (is : List Instruction) (s : Sets) (x t : ℕ) → ((k : ℕ) → on is x k ≡ true → ⊥) → pass is s x t ≡ s x t
+unfolding pass after
+pass-apart [] s x t none-on = refl
+pass-apart (i ∷ is) s x t none-on =
+    pass-apart is (after i s) x t (λ k. none-on (suc k)) ∙ step-apart (s x t) (touches x i) (refuted (touches x i) (none-on 0))
+  where
+    step-apart : (r a : Bool) → a ≡ false → (r || (a && leadingTo i s t)) ≡ r
+    step-apart true a h = refl
+    step-apart false a h = rw h
+
+-- ## What the sets say
 
 -- the last arrow of a path
 last-arrow : {e : ℕ → ℕ → Bool} {i k : ℕ} → Leads e i k → (i ≡ k) ⊎ ((j : ℕ) × Leads e i j × (e j k ≡ true))
@@ -138,6 +211,22 @@ module _ (c : Static) (wired : Wired c) where
     where
       on-leads : (i : ℕ) → on is l i ≡ true → Leads (prec is) i (measOf is l)
       on-leads i o = elim (same-or-other i (measOf is l)) [ inl e ↦ here e | inr d ↦ step (prec-meas c wired l i o d) (here refl) ]
+
+  -- before its reset the set of a line is empty, so that after it the set is the reset alone
+  pub reset-alone : (front back : List Instruction) (l : Line) → is ≡ front ++ Reset l ∷ back → (t : ℕ) → pass front noSets (l .0) t ≡ false
+  reset-alone front back l e t = pass-apart front noSets (l .0) t early
+    where
+      there : at (resets (l .0)) is (length front) ≡ true
+      there = ap (λ (js : List Instruction). at (resets (l .0)) js (length front)) e ∙ (at-seam (resets (l .0)) front (Reset l) back ∙ eq-eqb (l .0) (l .0) refl)
+
+      early : (k : ℕ) → on front (l .0) k ≡ true → ⊥
+      early k o =
+          let there-on = at-more (resets (l .0)) (touches (l .0)) (reset-touches (l .0)) is (length front) there in
+          let p = spans c wired (l .0) (wired .named (l .0) (length front) there-on) in
+          let a = p .one-reset (length front) there in
+          let b = p .first k (subst (λ js. on js (l .0) k ≡ true) (sym e) (at-front (touches (l .0)) front (Reset l ∷ back) k o)) in
+          let i = at-inside (touches (l .0)) front k o in
+          omega arith
 
   -- the table after the pass is the table at the start
   pub start-right : Start (circuitOf c) (startOf c)
