@@ -2,10 +2,8 @@
 -- precedence, neighbours, sets and marks are computed. Assumes nothing.
 use Prim.Native.Nat.{ℕ}
 use mathlib.Core.Path.{_≡_, refl}
-use mathlib.Core.Logic.{_↔_}
 use mathlib.Core.Bool.{Bool, true, false}
 use mathlib.Core.List.{List, [], _∷_, map}
-use native.Mathlib.Omega.{arith}
 use Rattle.basics.specs.Outcome.{done}
 use Rattle.orders.specs.Indices.{any, stands, from}
 use Rattle.orders.specs.Runs.{Lawful}

@@ -5,7 +5,7 @@ use mathlib.Core.Path.{_≡_, refl, sym, ap, subst, _∙_}
 use mathlib.Core.Logic.{_⊎_, inl, inr, _≢_}
 use mathlib.Core.Bool.{Bool, true, false, false≢true}
 use mathlib.Core.List.{List, [], _∷_}
-use mathlib.Core.Option.{Option, none, some}
+use mathlib.Core.Option.{some}
 use native.Mathlib.Omega.{arith}
 use lib.ListN.{length, getD, set, getElem?, length-set, getD-replicate}
 use lib.Seq.{getD-set-same, getD-set-other}
@@ -23,7 +23,7 @@ use Rattle.circuits.specs.Limits.{mostWires}
 use Rattle.circuits.specs.Judging.{fresh, inUse, finished, used, freshStates, lineState, bitState, unfinished, firstUnfinished, advanceOf, Verdict, passed, fault, _then_, faulty, live, judgeReset, judgeGate, judgeMeasurement, judgeTwo, judgeOf}
 use Rattle.circuits.specs.Validity.{Passes, none, also}
 use Rattle.circuits.specs.declared.states.States.{States}
-use Rattle.precedence.specs.Lives.{linesOf, touches, resets, measures, isGate, Life, over, apart, begins, works, ends, bitsOf}
+use Rattle.precedence.specs.Lives.{linesOf, touches, measures, isGate, Life, over, apart, begins, works, ends, bitsOf}
 
 -- ## What a verdict that passed says
 

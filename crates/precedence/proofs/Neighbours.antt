@@ -1,9 +1,9 @@
 -- The document's graph, with arrows between neighbouring instructions of each wire only, leads to the same as the precedence, with any pairs.
 -- What a wire forces is cut at an instruction between, as long as there is one. Assumes nothing.
 use Prim.Native.Nat.{ℕ, zero, suc, _+_, _-_, _≤_, _<_}
-use mathlib.Core.Path.{_≡_, refl, subst}
-use mathlib.Core.Logic.{_⊎_, inl, inr, _↔_}
-use mathlib.Core.Bool.{Bool, true, false, not, _&&_}
+use mathlib.Core.Path.{_≡_, refl}
+use mathlib.Core.Logic.{inl, inr, _↔_}
+use mathlib.Core.Bool.{Bool, true, false, not}
 use mathlib.Core.List.{List}
 use native.Mathlib.Omega.{arith}
 use Rattle.basics.proofs.Tests.{both, and-intro, true-or-false, not-of-false}

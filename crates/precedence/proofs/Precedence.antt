@@ -2,17 +2,17 @@
 -- wire. Assumes nothing.
 use Prim.Native.Nat.{ℕ, zero, suc, _≤_, _<_}
 use mathlib.Core.Path.{_≡_, refl, sym, ap, subst, _∙_}
-use mathlib.Core.Logic.{_⊎_, inl, inr, _↔_, _≢_}
+use mathlib.Core.Logic.{inl, inr, _↔_, _≢_}
 use mathlib.Core.Bool.{Bool, true, false, _&&_, false≢true}
 use mathlib.Core.List.{List, [], _∷_, _++_}
 use mathlib.Core.Option.{Option, none, some}
 use native.Mathlib.Omega.{arith}
 use lib.ListN.{length, getElem?}
 use lib.Dec.{ltb}
-use borrow.Author.Tests.{eqb-true, eq-eqb, ltb-true, lt-ltb}
+use borrow.Author.Tests.{eqb-true, ltb-true, lt-ltb}
 use Rattle.basics.specs.Outcome.{done}
 use Rattle.basics.proofs.Tests.{not-both, both, and-intro, true-or-false, refuted}
-use Rattle.orders.specs.Indices.{In, any}
+use Rattle.orders.specs.Indices.{In}
 use Rattle.orders.specs.Runs.{Lawful}
 use Rattle.orders.proofs.Indices.{any-in, any-which, stands-in, in-stands}
 use Rattle.records.specs.Records.{line}
@@ -147,12 +147,16 @@ module _ (x : ℕ) where
     no-reset : (k : ℕ) → at (resets x) is k ≡ true → ⊥
 
   -- behind an instruction that does not measure x
+  last-behind : (i : Instruction) (is : List Instruction) → measOf (i ∷ is) x ≡ suc (measOf is x) → ((k : ℕ) → on is x k ≡ true → k ≤ measOf is x)
+      → (k : ℕ) → on (i ∷ is) x k ≡ true → k ≤ measOf (i ∷ is) x
+  last-behind i is e last = at-cases (touches x) i is (λ k. k ≤ measOf (i ∷ is) x) (λ h. omega arith) (λ k h. (let b = last k h in omega arith))
+
   lasts-behind : (i : Instruction) (is : List Instruction) → measures x i ≡ false → resets x i ≡ false → Lasts is → Lasts (i ∷ is)
   lasts-behind i is m r l =
       let e = first-later (measures x) i is m in
       record {
         meas-at = subst (λ k. at (measures x) (i ∷ is) k ≡ true) (sym e) (l .meas-at);
-        last = at-cases (touches x) i is (λ k. k ≤ measOf (i ∷ is) x) (λ h. omega arith) (λ k h. (let b = l .last k h in omega arith));
+        last = last-behind i is e (l .last);
         no-reset = at-cases (resets x) i is (λ k. ⊥) (λ h. not-both (resets x i) h r) (l .no-reset);
       }
 
@@ -180,28 +184,28 @@ module _ (x : ℕ) where
       let s = life-spans r e in
       let a = first-later (resets x) i is (apart-reset x i t) in
       let z = first-later (measures x) i is (apart-meas x i t) in
+      let last = last-behind i is z (s .last) in
       record {
         reset-at = subst (λ k. at (resets x) (i ∷ is) k ≡ true) (sym a) (s .reset-at);
         meas-at = subst (λ k. at (measures x) (i ∷ is) k ≡ true) (sym z) (s .meas-at);
         first = at-cases (touches x) i is (λ k. resetOf (i ∷ is) x ≤ k) (λ h. absurd (not-both (touches x i) h t)) (λ k h. (let b = s .first k h in omega arith));
-        last = at-cases (touches x) i is (λ k. k ≤ measOf (i ∷ is) x) (λ h. omega arith) (λ k h. (let b = s .last k h in omega arith));
+        last = last;
         one-reset = at-cases (resets x) i is (λ k. k ≡ resetOf (i ∷ is) x) (λ h. absurd (not-both (resets x i) h (apart-reset x i t)))
-          (λ k h. (let b = s .one-reset k h in omega arith));
-        one-meas = at-cases (measures x) i is (λ k. k ≡ measOf (i ∷ is) x) (λ h. absurd (not-both (measures x i) h (apart-meas x i t)))
-          (λ k h. (let b = s .one-meas k h in omega arith));
+            (λ k h. (let b = s .one-reset k h in omega arith));
+        one-meas = only-meas (i ∷ is) last;
       }
   life-spans (begins {i} {is} t r) e =
       let l = life-lasts r refl in
       let a = first-now (resets x) i is t in
       let z = first-later (measures x) i is (reset-no-meas x i t) in
+      let last = last-behind i is z (l .last) in
       record {
         reset-at = subst (λ k. at (resets x) (i ∷ is) k ≡ true) (sym a) t;
         meas-at = subst (λ k. at (measures x) (i ∷ is) k ≡ true) (sym z) (l .meas-at);
         first = λ k h. omega arith;
-        last = at-cases (touches x) i is (λ k. k ≤ measOf (i ∷ is) x) (λ h. omega arith) (λ k h. (let b = l .last k h in omega arith));
+        last = last;
         one-reset = at-cases (resets x) i is (λ k. k ≡ resetOf (i ∷ is) x) (λ h. sym a) (λ k h. absurd (l .no-reset k h));
-        one-meas = at-cases (measures x) i is (λ k. k ≡ measOf (i ∷ is) x) (λ h. absurd (not-both (measures x i) h (reset-no-meas x i t)))
-          (λ k h. (let b = only-meas is (l .last) k h in omega arith));
+        one-meas = only-meas (i ∷ is) last;
       }
   life-spans (works t g r) e = absurd (omega arith)
   life-spans (ends t r) e = absurd (omega arith)

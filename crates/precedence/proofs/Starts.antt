@@ -1,23 +1,22 @@
 -- The pass over a valid circuit computes the table to start from. After k instructions t is in x's set exactly when t's reset leads to one of
 -- them that is on x. Assumes nothing.
-use Prim.Native.Nat.{ℕ, zero, suc, _+_, _<_}
+use Prim.Native.Nat.{ℕ, suc, _+_, _<_}
 use mathlib.Core.Path.{_≡_, refl, sym, ap, subst, _∙_}
 use mathlib.Core.Logic.{_⊎_, inl, inr, _↔_, _≢_}
 use mathlib.Core.Bool.{Bool, true, false, not, _&&_, _||_, false≢true}
 use mathlib.Core.List.{List, [], _∷_, _++_}
-use mathlib.Core.Option.{Option, none, some}
+use mathlib.Core.Option.{some}
 use native.Mathlib.Omega.{arith}
 use lib.ListN.{length, getElem?}
 use lib.Dec.{eqb}
 use borrow.Author.Tests.{eqb-true, eq-eqb, not-true}
 use Rattle.basics.specs.Choice.{pick}
 use Rattle.basics.proofs.Tests.{not-both, refuted, not-of-false, both, and-intro, either, or-left, or-right, same-or-other}
-use Rattle.orders.specs.Indices.{In, any, stands}
-use Rattle.orders.specs.Graph.{Leads, here, step, Reach}
+use Rattle.orders.specs.Indices.{any, stands}
+use Rattle.orders.specs.Graph.{Leads, here, step, Reach, Clear}
 use Rattle.orders.specs.Table.{Start}
 use Rattle.orders.proofs.Indices.{any-in, any-which, stands-in, in-stands}
 use Rattle.orders.proofs.Graph.{leads-trans, leads-more, arrow-prec, arrow-cases}
-use Rattle.records.specs.Records.{line}
 use Rattle.records.specs.declared.numbers.Angle.{Angle}
 use Rattle.records.specs.declared.numbers.Bit.{Bit}
 use Rattle.records.specs.declared.numbers.Line.{Line}
@@ -230,18 +229,16 @@ module _ (c : Static) (wired : Wired c) where
 
   -- the table after the pass is the table at the start
   pub start-right : Start (circuitOf c) (startOf c)
-  start-right = record {
-    marks = λ l t. (
-      λ m. (
-        let a = both (wire c l) (wire c t && not (leadingSets is l t)) m in
-        let b = both (wire c t) (not (leadingSets is l t)) (a .1) in
-        (a .0, b .0, λ r. not-both (leadingSets is l t) (sets-exactly l t (a .0) (b .0) .1 r) (not-true (leadingSets is l t) (b .1)))
-      ),
-      λ q.
-        and-intro (wire c l) (wire c t && not (leadingSets is l t)) (q .0)
-        (and-intro (wire c t) (not (leadingSets is l t)) (q .1)
-        (not-of-false (leadingSets is l t) (refuted (leadingSets is l t) (λ e. q .2 (sets-exactly l t (q .0) (q .1) .0 e))))),
-    );
-    none-lent = λ x h. refl;
-    none-taken = λ x h. refl;
-  }
+  start-right = record { marks = λ l t. (clear l t, marked l t); none-lent = λ x h. refl; none-taken = λ x h. refl }
+    where
+      clear : (l t : ℕ) → startOf c .mark l t ≡ true → (wire c l ≡ true) × (wire c t ≡ true) × Clear (circuitOf c) [] l t
+      clear l t m =
+          let a = both (wire c l) (wire c t && not (leadingSets is l t)) m in
+          let b = both (wire c t) (not (leadingSets is l t)) (a .1) in
+          (a .0, b .0, λ r. not-both (leadingSets is l t) (sets-exactly l t (a .0) (b .0) .1 r) (not-true (leadingSets is l t) (b .1)))
+
+      marked : (l t : ℕ) → (wire c l ≡ true) × (wire c t ≡ true) × Clear (circuitOf c) [] l t → startOf c .mark l t ≡ true
+      marked l t q =
+          let out = refuted (leadingSets is l t) (λ e. q .2 (sets-exactly l t (q .0) (q .1) .0 e)) in
+          and-intro (wire c l) (wire c t && not (leadingSets is l t)) (q .0)
+          (and-intro (wire c t) (not (leadingSets is l t)) (q .1) (not-of-false (leadingSets is l t) out))

@@ -1,4 +1,5 @@
--- The start of the table: one pass over the instructions, left to right, with a set of resets for each line. Definitions alone.
+-- The start of the table: one pass over the instructions, left to right, with a set of resets for each line.
+-- Definitions alone.
 use Prim.Native.Nat.{ℕ}
 use mathlib.Core.Bool.{Bool, false, not, _&&_, _||_}
 use mathlib.Core.List.{List, [], _∷_}
