@@ -1,5 +1,6 @@
 pub mod Lives
+pub mod Paths
 pub mod Precedence
-pub mod Starts
 pub mod Neighbours
+pub mod Starts
 pub mod Examples

@@ -26,6 +26,7 @@ use Rattle.circuits.specs.Reading.{Static}
 use Rattle.precedence.specs.Lives.{linesOf, touches, resets}
 use Rattle.precedence.specs.Precedence.{holds, at, on, resetOf, measOf, prec, wire, circuitOf, Wired}
 use Rattle.precedence.specs.Starts.{Sets, noSets, readOn, leadingTo, after, pass, leadingSets, startOf}
+use Rattle.precedence.proofs.Paths.{last-arrow}
 use Rattle.precedence.proofs.Precedence.{reset-touches, at-more, at-inside, at-front, at-seam, must-exactly, prec-exactly, on-prec, spans, meas-on, prec-meas, circuit-lawful}
 
 -- ## What each kind of instruction does to the sets, as a loop over rows has it
@@ -98,15 +99,6 @@ pass-apart (i ∷ is) s x t none-on =
     step-apart false a h = rw h
 
 -- ## What the sets say
-
--- the last arrow of a path
-last-arrow : {e : ℕ → ℕ → Bool} {i k : ℕ} → Leads e i k → (i ≡ k) ⊎ ((j : ℕ) × Leads e i j × (e j k ≡ true))
-last-arrow (here p) = inl p
-last-arrow {e} (step {i = i} {j = j} {k = k} h q) = inr (go (last-arrow q))
-  where
-    go : (j ≡ k) ⊎ ((m : ℕ) × Leads e j m × (e m k ≡ true)) → (m : ℕ) × Leads e i m × (e m k ≡ true)
-    go (inl p) = (i, here refl, subst (λ z. e i z ≡ true) p h)
-    go (inr r) = (r .0, step h (r .1), r .2)
 
 module _ (c : Static) (wired : Wired c) where
   abbrev is : List Instruction
