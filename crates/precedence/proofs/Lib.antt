@@ -1,6 +1,7 @@
 pub mod Lives
-pub mod Paths
+pub mod Spans
 pub mod Precedence
+pub mod Paths
 pub mod Neighbours
 pub mod Starts
 pub mod Examples

@@ -21,7 +21,8 @@ use Rattle.records.specs.declared.instructions.Instruction.{Instruction}
 use Rattle.records.specs.declared.instructions.Instruction.the-variants.{Reset, Measurement, Gate, AngledGate, TwoLineGate, AngledTwoLineGate}
 use Rattle.circuits.specs.Limits.{mostWires}
 use Rattle.circuits.specs.Judging.{fresh, inUse, finished, used, freshStates, lineState, bitState, unfinished, firstUnfinished, advanceOf, Verdict, passed, fault, _then_, faulty, live, judgeReset, judgeGate, judgeMeasurement, judgeTwo, judgeOf}
-use Rattle.circuits.specs.Validity.{Passes, none, also}
+use Rattle.circuits.specs.Reading.{Static}
+use Rattle.circuits.specs.Validity.{Passes, none, also, Valid}
 use Rattle.circuits.specs.declared.states.States.{States}
 use Rattle.precedence.specs.Lives.{linesOf, touches, measures, isGate, Life, over, apart, begins, works, ends, bitsOf}
 
@@ -366,3 +367,18 @@ module _ (width : ℕ) (narrow : width ≤ mostWires) where
           only = λ b h. a .0 b h .0;
           once = a .1;
         }
+
+-- ## Of a valid circuit
+
+module _ {s : List ℕ} {c : Static} (v : Valid s c) where
+  pub valid-life : (x : ℕ) → x < c .width → Life x fresh (c .steps)
+  valid-life x h = passes-life (c .width) (v .narrow) x h (v .passes)
+
+  pub valid-below : (k : ℕ) (i : Instruction) → getElem? (c .steps) k ≡ some i → (x : ℕ) → In x (linesOf i) → x < c .width
+  valid-below = passes-below (v .passes)
+
+  pub valid-once : (k : ℕ) (i : Instruction) → getElem? (c .steps) k ≡ some i → Once (linesOf i)
+  valid-once = passes-once (v .passes)
+
+  pub valid-bits : Order (c .width) (bitsOf (c .steps))
+  valid-bits = passes-bits (c .width) (v .narrow) (v .passes)

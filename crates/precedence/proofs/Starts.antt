@@ -27,7 +27,8 @@ use Rattle.precedence.specs.Lives.{linesOf, touches, resets}
 use Rattle.precedence.specs.Precedence.{holds, at, on, resetOf, measOf, prec, wire, circuitOf, Wired}
 use Rattle.precedence.specs.Starts.{Sets, noSets, readOn, leadingTo, after, pass, leadingSets, startOf}
 use Rattle.precedence.proofs.Paths.{last-arrow}
-use Rattle.precedence.proofs.Precedence.{reset-touches, at-more, at-inside, at-front, at-seam, must-exactly, prec-exactly, on-prec, spans, meas-on, prec-meas, circuit-lawful}
+use Rattle.precedence.proofs.Spans.{reset-touches, at-more, at-inside, at-front, at-seam}
+use Rattle.precedence.proofs.Precedence.{must-exactly, prec-exactly, on-prec, spans, meas-on, prec-meas, circuit-lawful}
 
 -- ## What each kind of instruction does to the sets, as a loop over rows has it
 

@@ -16,6 +16,7 @@ use Rattle.precedence.specs.Lives.{linesOf, touches, resets, measures, L
 
 -- ## Instructions by their index
 
+-- whether an instruction passes the test; where there is none, none does
 abbrev pub holds : (Instruction → Bool) → Option Instruction → Bool
 holds p none = false
 holds p (some i) = p i
@@ -28,6 +29,7 @@ at p is k = holds p (getElem? is k)
 abbrev pub on : List Instruction → ℕ → ℕ → Bool
 on is x k = at (touches x) is k
 
+-- the lines of an instruction; where there is none, none
 abbrev pub linesIn : Option Instruction → List ℕ
 linesIn none = []
 linesIn (some i) = linesOf i

@@ -30,6 +30,7 @@ leadingTo i s t = resets t i || any (λ x. readOn s x t) (linesOf i)
 unfoldable pub after : Instruction → Sets → Sets
 after i s x t = s x t || (touches x i && leadingTo i s t)
 
+-- the sets after one instruction after the other
 unfoldable pub pass : List Instruction → Sets → Sets
 pass [] s = s
 pass (i ∷ is) s = pass is (after i s)
