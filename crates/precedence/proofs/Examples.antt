@@ -1,14 +1,14 @@
 -- The circuits A, B and P11 of document 01 as instructions, at which each law says something: they are read from their bytes, and their
 -- precedence, neighbours, sets and marks are computed. Assumes nothing.
 use Prim.Native.Nat.{ℕ}
-use mathlib.Core.Path.{_≡_, refl}
+use mathlib.Core.Path.{_≡_, refl, sym, _∙_}
 use mathlib.Core.Bool.{Bool, true, false}
 use mathlib.Core.List.{List, [], _∷_, map}
 use Rattle.basics.specs.Outcome.{done}
-use Rattle.orders.specs.Indices.{any, stands, from}
-use Rattle.orders.specs.Runs.{Lawful}
+use Rattle.orders.specs.Indices.{any, every, stands, from}
 use Rattle.orders.specs.Graph.{Reach}
 use Rattle.orders.specs.Table.{Start, accept}
+use Rattle.orders.specs.Schedule.{earlierWritten, lenderWritten, ready, least, next, writeOn, schedule}
 use Rattle.records.specs.Kinds.{shapeOf}
 use Rattle.records.specs.Records.{line, bit, recordAt}
 use Rattle.records.specs.declared.instructions.Instruction.{Instruction}
@@ -19,8 +19,8 @@ use Rattle.circuits.specs.Reading.{Static, widthRead, headerOf, checkedAt, endi
 use Rattle.precedence.specs.Lives.{bitsOf}
 use Rattle.precedence.specs.Precedence.{firstOf, resetOf, measOf, mustOn, prec, circuitOf, nextOn, neighbours, drawnOf, Wired}
 use Rattle.precedence.specs.Starts.{leadingTo, after, pass, leadingSets, startOf}
-use Rattle.precedence.proofs.Precedence.{read-wired, circuit-lawful}
-use Rattle.precedence.proofs.Neighbours.{reach-drawn}
+use Rattle.precedence.proofs.Precedence.{read-wired}
+use Rattle.precedence.proofs.Neighbours.{reach-drawn, schedule-drawn}
 use Rattle.precedence.proofs.Starts.{sets-exactly, start-right}
 
 reset : ℕ → Instruction
@@ -74,9 +74,6 @@ wired-B = read-wired bytes-B (read-all .1)
 wired-P11 : Wired P11
 wired-P11 = read-wired bytes-P11 (read-all .2)
 
-lawful-A : Lawful (circuitOf A)
-lawful-A = circuit-lawful A wired-A
-
 -- ## Precedence
 
 -- f at each pair of numbers below n, row by row
@@ -100,7 +97,7 @@ neighbours-A = refl
 
 -- ## The start
 
--- in the document's words: wires 0 and 2 are not dependent because gates connect them, arrows have a direction
+-- row l, column t: 2's reset does not lead to 0's measurement, though gates connect the wires
 sets-A : rows 3 (leadingSets (A .steps)) ≡ (true ∷ true ∷ false ∷ []) ∷ (true ∷ true ∷ true ∷ []) ∷ (true ∷ true ∷ true ∷ []) ∷ []
 unfolding pass after leadingTo any stands rows from A reset meas cx
 sets-A = refl
@@ -108,6 +105,11 @@ sets-A = refl
 sets-B : rows 3 (leadingSets (B .steps)) ≡ (true ∷ false ∷ false ∷ []) ∷ (false ∷ true ∷ false ∷ []) ∷ (false ∷ false ∷ true ∷ []) ∷ []
 unfolding pass after leadingTo any stands rows from B reset meas cx
 sets-B = refl
+
+sets-P11 : rows 4 (leadingSets (P11 .steps))
+    ≡ (true ∷ true ∷ false ∷ false ∷ []) ∷ (true ∷ true ∷ false ∷ false ∷ []) ∷ (false ∷ false ∷ true ∷ true ∷ []) ∷ (false ∷ false ∷ true ∷ true ∷ []) ∷ []
+unfolding pass after leadingTo any stands rows from P11 reset meas cx
+sets-P11 = refl
 
 -- so 0 may lend to 2 in A, and nothing else; and in P11 3 may lend to 1 at the start and not after 0 to 2
 marks-A : rows 3 (startOf A .mark) ≡ (false ∷ false ∷ true ∷ []) ∷ (false ∷ false ∷ false ∷ []) ∷ (false ∷ false ∷ false ∷ []) ∷ []
@@ -118,10 +120,21 @@ marks-P11 : (startOf P11 .mark 3 1 ≡ true) × (accept (0, 2) (startOf P11) .ma
 unfolding accept pass after leadingTo any stands P11 reset meas cx
 marks-P11 = (refl, refl)
 
--- 2's reset leads to 1's measurement in A, in the document's graph too, and the marks of P11 are those of the start
+-- these tables are the start, and 2's reset leads to 1's measurement in A, in the document's graph too
+starts : Start (circuitOf A) (startOf A) × Start (circuitOf B) (startOf B) × Start (circuitOf P11) (startOf P11)
+starts = (start-right A wired-A, start-right B wired-B, start-right P11 wired-P11)
+
 reaches-A : Reach (drawnOf A) [] 2 6
 unfolding firstOf pass after leadingTo any stands A reset meas cx
 reaches-A = reach-drawn A [] 2 6 .1 (sets-exactly A wired-A 1 2 refl refl .0 refl)
 
-start-P11 : Start (circuitOf P11) (startOf P11)
-start-P11 = start-right P11 wired-P11
+-- ## The order of writing
+
+-- P1: the order of A with 0 to 2, where the next waits for its earlier neighbours
+order-A : schedule (drawnOf A) ((0, 2) ∷ []) ≡ 0 ∷ 1 ∷ 3 ∷ 5 ∷ 2 ∷ 4 ∷ 6 ∷ 7 ∷ []
+unfolding schedule writeOn next least ready earlierWritten lenderWritten every firstOf neighbours nextOn mustOn any stands from A reset meas cx
+order-A = refl
+
+-- and where it waits for all that must come before
+order-forced-A : schedule (circuitOf A) ((0, 2) ∷ []) ≡ 0 ∷ 1 ∷ 3 ∷ 5 ∷ 2 ∷ 4 ∷ 6 ∷ 7 ∷ []
+order-forced-A = sym (schedule-drawn A wired-A ((0, 2) ∷ [])) ∙ order-A

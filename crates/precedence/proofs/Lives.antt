@@ -114,15 +114,15 @@ none-unfinished (suc n) states i x h a b = go (unfinished (getD states i fresh))
 
 module _ (width : ℕ) (narrow : width ≤ mostWires) (x : ℕ) (h : x < width) where
   -- the state of line x
-  abbrev st : States → ℕ
-  st c = getD (c .lines) x fresh
+  abbrev stateOf : States → ℕ
+  stateOf c = getD (c .lines) x fresh
 
   -- the states are as many as the most wires, and that of line x is one of the three
   record Stated (c : States) : Type 0 where
     many : length (c .lines) ≡ mostWires
-    three : st c ≤ finished
+    three : stateOf c ≤ finished
 
-  same-line : (c : States) (l : Line) → x ≡ l .0 → lineState c l ≡ st c
+  same-line : (c : States) (l : Line) → x ≡ l .0 → lineState c l ≡ stateOf c
   same-line c l e = ap (λ (z : ℕ). getD (c .lines) z fresh) (sym e)
 
   stored : (ls : List ℕ) (y state : ℕ) → length ls ≡ mostWires → x ≡ y → getD (set ls y state) x fresh ≡ state
@@ -146,7 +146,7 @@ module _ (width : ℕ) (narrow : width ≤ mostWires) (x : ℕ) (h : x < width) 
   stated-after c (TwoLineGate k l m) s = s
   stated-after c (AngledTwoLineGate k l m a) s = s
 
-  running : (c : States) (l : Line) → Stated c → Live width c l → x ≡ l .0 → st c ≡ inUse
+  running : (c : States) (l : Line) → Stated c → Live width c l → x ≡ l .0 → stateOf c ≡ inUse
   running c l s v e =
       let z = same-line c l e in
       let p : lineState c l ≢ finished = v .1 .0 in
@@ -158,23 +158,23 @@ module _ (width : ℕ) (narrow : width ≤ mostWires) (x : ℕ) (h : x < width) 
   untouched y d = refuted _ (λ t. elim (stands-in x (y ∷ []) t) [ inl e ↦ d e | inr z ↦ z ])
 
   -- a gate on lines that are in use
-  gate-life : (c : States) (i : Instruction) (is : List Instruction) → isGate i ≡ true → (In x (linesOf i) → st c ≡ inUse) → Life x (st c) is
-      → Life x (st c) (i ∷ is)
+  gate-life : (c : States) (i : Instruction) (is : List Instruction) → isGate i ≡ true → (In x (linesOf i) → stateOf c ≡ inUse) → Life x (stateOf c) is
+      → Life x (stateOf c) (i ∷ is)
   gate-life c i is g running r = elim (true-or-false (touches x i)) [
     | inl t ↦ (let e = running (stands-in x (linesOf i) t) in subst (λ n. Life x n (i ∷ is)) (sym e) (works t g (subst (λ n. Life x n is) e r)))
     | inr t ↦ apart t r
   ]
 
-  one-running : (c : States) (l : Line) → Stated c → Live width c l → In x (l .0 ∷ []) → st c ≡ inUse
+  one-running : (c : States) (l : Line) → Stated c → Live width c l → In x (l .0 ∷ []) → stateOf c ≡ inUse
   one-running c l s v (inl e) = running c l s v e
 
-  two-running : (c : States) (l m : Line) → Stated c → Live width c l → Live width c m → In x (l .0 ∷ m .0 ∷ []) → st c ≡ inUse
+  two-running : (c : States) (l m : Line) → Stated c → Live width c l → Live width c m → In x (l .0 ∷ m .0 ∷ []) → stateOf c ≡ inUse
   two-running c l m s u v (inl e) = running c l s u e
   two-running c l m s u v (inr (inl e)) = running c m s v e
 
   -- one instruction before the rest of a life
-  life-step : (c : States) (i : Instruction) (is : List Instruction) → judgeOf width width c i ≡ passed → Stated c → Life x (st (advanceOf c i)) is
-      → Life x (st c) (i ∷ is)
+  life-step : (c : States) (i : Instruction) (is : List Instruction) → judgeOf width width c i ≡ passed → Stated c → Life x (stateOf (advanceOf c i)) is
+      → Life x (stateOf c) (i ∷ is)
   life-step c (Reset l) is j s r = elim (same-or-other x (l .0)) [
     | inl e ↦
         let p = reset-passed width c l j in
@@ -182,7 +182,7 @@ module _ (width : ℕ) (narrow : width ≤ mostWires) (x : ℕ) (h : x < width) 
         let b : lineState c l ≢ inUse = p .2 in
         let z = same-line c l e in
         let t = s .three in
-        let f : st c ≡ fresh = omega (arith, a, b) in
+        let f : stateOf c ≡ fresh = omega (arith, a, b) in
         subst (λ n. Life x n (Reset l ∷ is)) (sym f) (begins (eq-eqb x (l .0) e) (subst (λ n. Life x n is) (stored (c .lines) (l .0) inUse (s .many) e) r))
     | inr d ↦ apart (untouched (l .0) d) (subst (λ n. Life x n is) (kept (c .lines) (l .0) inUse d) r)
   ]
@@ -203,11 +203,11 @@ module _ (width : ℕ) (narrow : width ≤ mostWires) (x : ℕ) (h : x < width) 
       gate-life c (AngledTwoLineGate k l m a) is refl (two-running c l m s (p .0) (p .1)) r
 
   -- from any states on, line x lives to its end
-  lives-from : {c : States} {is : List Instruction} → Passes width c is → Stated c → Life x (st c) is
+  lives-from : {c : States} {is : List Instruction} → Passes width c is → Stated c → Life x (stateOf c) is
   lives-from (none {c} e) s = subst (λ n. Life x n []) (sym (none-unfinished width (c .lines) 0 x (omega arith) (omega arith) (omega arith))) over
   lives-from (also {c} {i} {is} j p) s = life-step c i is j s (lives-from p (stated-after c i s))
 
-  fresh-state : st freshStates ≡ fresh
+  fresh-state : stateOf freshStates ≡ fresh
   fresh-state = getD-replicate mostWires x fresh fresh (omega arith)
 
   fresh-stated : Stated freshStates
