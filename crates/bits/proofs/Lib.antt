@@ -1,0 +1,5 @@
+pub mod Packing
+pub mod Operations
+pub mod Sums
+pub mod Lists
+pub mod Arrays

@@ -1,0 +1,56 @@
+-- Laws of sums and of counts of bits. Assumes nothing.
+use mathlib.Core.Path.{_≡_, refl, ap, ap₂, _∙_}
+use mathlib.Core.Bool.{Bool, true, false}
+use mathlib.Core.Logic.{_⊎_, inl, inr, ⊎-elim}
+use Prim.Native.Nat.{ℕ, zero, suc, _+_, _*_, _≤_, _<_, zero-le}
+use native.Mathlib.Nat.{le-refl, le-of-suc-le-suc, eq-or-lt-of-le, not-suc-le-zero, add-comm, suc-mul}
+use native.Mathlib.Omega.{arith}
+use native.Mathlib.Numerals.{add-one}
+use lib.Count.{ones, ones-cat}
+use Rattle.bits.specs.Bits.{digit, pack, total, tally}
+use Rattle.bits.proofs.Packing.{digit-lt, pack-lt}
+use Rattle.bits.proofs.Operations.{Packs}
+
+pub total-more : (k : ℕ) (f : ℕ → ℕ) → total (k + 1) f ≡ total k f + f k
+unfolding total
+total-more k f = rw add-one
+
+pub total-le : (k m : ℕ) (f : ℕ → ℕ) → ((i : ℕ) → i < k → f i ≤ m) → total k f ≤ k * m
+unfolding total
+total-le zero m f h = zero-le
+total-le (suc k) m f h = omega (arith, suc-mul k m, total-le k m f (λ i l. h i (omega arith)), h k (le-refl (suc k)))
+
+pub tally-le : (k : ℕ) (f : ℕ → Bool) → tally k f ≤ k
+tally-le k f = omega (arith, total-le k 1 (λ i. digit (f i)) (λ i l. le-of-suc-le-suc (digit-lt (f i))))
+
+-- a sum of no larger parts is no larger
+pub total-mono : (k : ℕ) (f g : ℕ → ℕ) → ((i : ℕ) → i < k → f i ≤ g i) → total k f ≤ total k g
+unfolding total
+total-mono zero f g h = zero-le
+total-mono (suc k) f g h = omega (arith, total-mono k f g (λ i l. h i (omega arith)), h k (le-refl (suc k)))
+
+-- and is smaller where one part is
+pub total-less : (k : ℕ) (f g : ℕ → ℕ) → ((i : ℕ) → i < k → f i ≤ g i) → (j : ℕ) → j < k → f j < g j → total k f < total k g
+unfolding total
+total-less zero f g h j l s = absurd (not-suc-le-zero l)
+total-less (suc k) f g h j l s =
+    ⊎-elim (λ e. top e)
+    (λ m. omega (arith, total-less k f g (λ i n. h i (omega arith)) j m s, h k (le-refl (suc k))))
+    (eq-or-lt-of-le (le-of-suc-le-suc l))
+  where
+    top : j ≡ k → total k f + f k < total k g + g k
+    top e = let s' : f k < g k = rw e at s in omega (arith, total-mono k f g (λ i n. h i (omega arith)))
+
+ones-digit : (b : Bool) → ones (digit b) ≡ digit b
+unfolding ones
+ones-digit true = refl
+ones-digit false = refl
+
+ones-pack : (k : ℕ) (f : ℕ → Bool) → ones (pack k f) ≡ tally k f
+unfolding pack total ones
+ones-pack zero f = refl
+ones-pack (suc k) f = ones-cat k (digit (f k)) (pack k f) (pack-lt k f) ∙ add-comm _ _ ∙ ap₂ (λ (x y : ℕ). x + y) (ones-pack k f) (ones-digit (f k))
+
+-- `count_ones` counts the bits
+pub ones-is : {k : ℕ} {a : ℕ} {f : ℕ → Bool} → Packs k f a → ones a ≡ tally k f
+ones-is {k} {a} {f} p = ap ones (p .is) ∙ ones-pack k f

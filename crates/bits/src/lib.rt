@@ -1,0 +1,1 @@
+// No functions: marks in a number, as a row of bits.
