@@ -1,0 +1,5 @@
+pub mod Limits
+pub mod Marks
+pub mod Rule
+pub mod Changes
+pub mod Calls

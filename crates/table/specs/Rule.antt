@@ -1,0 +1,29 @@
+-- Document 01's rule of the update, on marks, and the table that an accepted offer leaves.
+use Prim.Native.Nat.{ℕ}
+use mathlib.Core.Bool.{Bool, not, _&&_, _||_}
+use lib.Dec.{eqb}
+use Rattle.bits.specs.Bits.{pack, each}
+use Rattle.table.specs.Limits.{mostWires}
+use Rattle.table.specs.Marks.{counts, lends, takes}
+use Rattle.table.specs.declared.tables.Table.{Table}
+
+-- one row after the offer: no at the taker; and no at each v where the lender's row, `given`, has no, if this row has no at the taker
+abbrev pub rowAfter : (ℕ → Bool) → (ℕ → Bool) → ℕ → ℕ → Bool
+rowAfter given row taker v = not (eqb v taker) && (row v && (given v || row taker))
+
+-- the mark (u, v) after the offer: the lender's own row becomes no
+abbrev pub markAfter : (ℕ → ℕ → Bool) → ℕ → ℕ → ℕ → ℕ → Bool
+markAfter marks lender taker u v = not (eqb u lender) && rowAfter (marks lender) (marks u) taker v
+
+-- the used wires after the offer: one more
+abbrev pub usedAfter : (ℕ → Bool) → ℕ → ℕ → Bool
+usedAfter marks wire u = eqb u wire || marks u
+
+-- the table once the lender lends to the taker: a mark that doesn't count is no in it, and used marks at or above the width are gone
+unfoldable pub accepted : Table → ℕ → ℕ → Table
+accepted t lender taker = record {
+  width = t .width;
+  rows = each mostWires (λ u. pack mostWires (markAfter (counts t) lender taker u));
+  lending = pack mostWires (usedAfter (lends t) lender);
+  taking = pack mostWires (usedAfter (takes t) taker);
+}

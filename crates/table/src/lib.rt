@@ -1,0 +1,13 @@
+// The table of possible reuse pairs: which wire may lend to which, what an offer makes of it, and its bytes.
+pub mod answers;
+pub mod counting;
+pub mod offering;
+pub mod rows;
+pub mod tables;
+
+pub use answers::Counted;
+pub use answers::Offered;
+pub use answers::Permission;
+pub use answers::Reply;
+pub use tables::Row;
+pub use tables::Table;

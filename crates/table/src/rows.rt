@@ -1,0 +1,92 @@
+// Rows of marks, one at a time: which of them count, and what an accepted offer leaves of them.
+use crate::tables::Row;
+use crate::tables::Table;
+ghost use mathlib.Core.Path.{_≡_};
+ghost use mathlib.Core.Bool.{_&&_, _||_, not};
+ghost use lib.Dec.{ltb, eqb};
+ghost use Rattle.bits.specs.Bits.{bit, pack};
+ghost use Rattle.table.specs.Limits.{mostWires};
+ghost use Rattle.table.specs.Marks.{used, free, countsAmong};
+ghost use Rattle.table.specs.Rule.{rowAfter, usedAfter};
+
+// What an accepted offer changes in every row: the lenders and the takers that stay or were free, the marks that
+// count in the lender's own row, and the taker.
+pub struct Change {
+    pub lenders: Row,
+    pub takers: Row,
+    pub given: Row,
+    pub taker: u8,
+}
+
+// The mark of one wire.
+pub fn has(row: Row, wire: u8) -> bool
+    ensures { λ r. ⌜ r ≡ bit wire row ⌝ }
+{
+    if wire < Table::MOST {
+        (row >> wire) % 2 == 1
+    } else {
+        false
+    }
+}
+
+// The wires below the width.
+fn below(width: u8) -> Row
+    ensures { λ r. ⌜ r ≡ pack mostWires (λ i. ltb i width) ⌝ }
+{
+    if width < Table::MOST {
+        (1 << width) - 1
+    } else {
+        !0
+    }
+}
+
+// A row without the mark of one wire.
+pub fn without(row: Row, wire: u8) -> Row
+    ensures { λ r. ⌜ r ≡ pack mostWires (λ v. not (eqb v wire) && bit v row) ⌝ }
+{
+    if wire < Table::MOST {
+        !(1 << wire) & row
+    } else {
+        row
+    }
+}
+
+// The free wires of a set of used ones.
+pub fn unused(width: u8, row: Row) -> Row
+    ensures { λ r. ⌜ r ≡ pack mostWires (free width row) ⌝ }
+{
+    below(width) & !row
+}
+
+// The used wires, with one wire more.
+pub fn use_wire(width: u8, row: Row, wire: u8) -> Row
+    ensures { λ r. ⌜ r ≡ pack mostWires (usedAfter (used width row) wire) ⌝ }
+{
+    if wire < Table::MOST {
+        (1 << wire) | (below(width) & row)
+    } else {
+        below(width) & row
+    }
+}
+
+// The marks of a lender's row that count, by the free lenders and the free takers.
+pub fn counting(lenders: Row, takers: Row, row: Row, lender: u8) -> Row
+    ensures { λ r. ⌜ r ≡ pack mostWires (countsAmong (λ i. bit i lenders) (λ i. bit i takers) row lender) ⌝ }
+{
+    if has(lenders, lender) {
+        without(row & takers, lender)
+    } else {
+        0
+    }
+}
+
+// What an offer leaves of a row whose marks all count.
+fn left(given: Row, row: Row, taker: u8) -> Row
+    ensures { λ r. ⌜ r ≡ pack mostWires (rowAfter (λ v. bit v given) (λ v. bit v row) taker) ⌝ }
+{
+    if has(row, taker) {
+        without(row, taker)
+    } else {
+        row & given
+    }
+}
