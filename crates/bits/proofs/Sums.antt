@@ -1,5 +1,5 @@
 -- Laws of sums and of counts of bits. Assumes nothing.
-use mathlib.Core.Path.{_≡_, refl, ap, ap₂, _∙_}
+use mathlib.Core.Path.{_≡_, refl, sym, ap, ap₂, _∙_}
 use mathlib.Core.Bool.{Bool, true, false}
 use mathlib.Core.Logic.{_⊎_, inl, inr, ⊎-elim}
 use Prim.Native.Nat.{ℕ, zero, suc, _+_, _*_, _≤_, _<_, zero-le}
@@ -11,16 +11,16 @@ use Rattle.bits.specs.Bits.{digit, pack, total, tally}
 use Rattle.bits.proofs.Packing.{digit-lt, pack-lt}
 use Rattle.bits.proofs.Operations.{Packs}
 
-pub total-more : (k : ℕ) (f : ℕ → ℕ) → total (k + 1) f ≡ total k f + f k
+total-more : (k : ℕ) (f : ℕ → ℕ) → total (k + 1) f ≡ total k f + f k
 unfolding total
 total-more k f = rw add-one
 
-pub total-le : (k m : ℕ) (f : ℕ → ℕ) → ((i : ℕ) → i < k → f i ≤ m) → total k f ≤ k * m
+total-le : (k m : ℕ) (f : ℕ → ℕ) → ((i : ℕ) → i < k → f i ≤ m) → total k f ≤ k * m
 unfolding total
 total-le zero m f h = zero-le
 total-le (suc k) m f h = omega (arith, suc-mul k m, total-le k m f (λ i l. h i (omega arith)), h k (le-refl (suc k)))
 
-pub tally-le : (k : ℕ) (f : ℕ → Bool) → tally k f ≤ k
+tally-le : (k : ℕ) (f : ℕ → Bool) → tally k f ≤ k
 tally-le k f = omega (arith, total-le k 1 (λ i. digit (f i)) (λ i l. le-of-suc-le-suc (digit-lt (f i))))
 
 -- a sum of no larger parts is no larger
@@ -30,7 +30,7 @@ total-mono zero f g h = zero-le
 total-mono (suc k) f g h = omega (arith, total-mono k f g (λ i l. h i (omega arith)), h k (le-refl (suc k)))
 
 -- and is smaller where one part is
-pub total-less : (k : ℕ) (f g : ℕ → ℕ) → ((i : ℕ) → i < k → f i ≤ g i) → (j : ℕ) → j < k → f j < g j → total k f < total k g
+total-less : (k : ℕ) (f g : ℕ → ℕ) → ((i : ℕ) → i < k → f i ≤ g i) → (j : ℕ) → j < k → f j < g j → total k f < total k g
 unfolding total
 total-less zero f g h j l s = absurd (not-suc-le-zero l)
 total-less (suc k) f g h j l s =
@@ -52,5 +52,13 @@ ones-pack zero f = refl
 ones-pack (suc k) f = ones-cat k (digit (f k)) (pack k f) (pack-lt k f) ∙ add-comm _ _ ∙ ap₂ (λ (x y : ℕ). x + y) (ones-pack k f) (ones-digit (f k))
 
 -- `count_ones` counts the bits
-pub ones-is : {k : ℕ} {a : ℕ} {f : ℕ → Bool} → Packs k f a → ones a ≡ tally k f
+ones-is : {k : ℕ} {a : ℕ} {f : ℕ → Bool} → Packs k f a → ones a ≡ tally k f
 ones-is {k} {a} {f} p = ap ones (p .is) ∙ ones-pack k f
+
+-- the counts of the first rows, and of one row more
+pub tallies-more : (k : ℕ) (f : ℕ → ℕ → Bool) (u n r : ℕ) → n ≡ total u (λ j. tally k (f j)) → Packs k (f u) r
+    → n + ones r ≡ total (u + 1) (λ j. tally k (f j))
+tallies-more k f u n r e p = ap₂ (λ (x y : ℕ). x + y) e (ones-is p) ∙ sym (total-more u (λ j. tally k (f j)))
+
+pub tallies-le : (k : ℕ) (f : ℕ → ℕ → Bool) (u n : ℕ) → n ≡ total u (λ j. tally k (f j)) → n ≤ u * k
+tallies-le k f u n e = rw e (total-le u k _ (λ i l. tally-le k (f i)))

@@ -1,1 +1,3 @@
 pub mod RowBits
+pub mod TableMarks
+pub mod Judgements

@@ -21,6 +21,10 @@ use Rattle.table.specs.declared.answers.Counted.the-variants as counted
 abbrev pub wrongWidth : Table → Bool
 wrongWidth t = eqb (t .width) 0 || ltb mostWires (t .width)
 
+-- the lender or the taker is not below the width
+abbrev pub outsideWidth : Table → ℕ → ℕ → Bool
+outsideWidth t lender taker = leb (t .width) lender || leb (t .width) taker
+
 -- whether the lender may lend to the taker
 unfoldable pub mayLend : Table → ℕ → ℕ → Outcome Bool
 mayLend t lender taker = pick (wrongWidth t) (refused 27 0) (done (counts t lender taker))
@@ -29,7 +33,7 @@ mayLend t lender taker = pick (wrongWidth t) (refused 27 0) (done (counts t lend
 unfoldable pub judged : Table → ℕ → ℕ → Outcome (Unit {0})
 judged t lender taker =
     pick (wrongWidth t) (refused 27 0)
-    (pick (leb (t .width) lender || leb (t .width) taker) (refused 20 0)
+    (pick (outsideWidth t lender taker) (refused 20 0)
     (pick (bit lender (t .lending)) (refused 21 0)
     (pick (bit taker (t .taking)) (refused 22 0)
     (pick (counts t lender taker) (done tt)

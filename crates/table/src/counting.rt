@@ -1,1 +1,48 @@
-// nothing
+// How many marks count, now or after an offer.
+use crate::answers::Counted;
+use crate::answers::Reply;
+use crate::offering::accept;
+use crate::offering::judge;
+use crate::offering::marks;
+use crate::offering::wrong_width;
+use crate::tables::Table;
+use records::Refusal;
+use records::Wire;
+ghost use mathlib.Core.Path.{_≡_};
+ghost use Rattle.table.specs.Marks.{marksOf};
+ghost use Rattle.table.specs.Calls.{countOf, scoreOf, tallied};
+
+fn marks_of(table: Table) -> u32
+    ensures { λ r. ⌜ r ≡ marksOf table ⌝ }
+{
+    let mut n: u32 = 0;
+    let mut u: u8 = 0;
+    while u < Table::MOST {
+        n += u32::count_ones(marks(table, u));
+        u += 1;
+    }
+    n
+}
+
+pub fn count(table: Table) -> Counted
+    ensures { λ r. ⌜ tallied r ≡ countOf table ⌝ }
+{
+    if wrong_width(table) {
+        return Counted::Refused(Refusal {
+            number: 27,
+            place: 0,
+        });
+    }
+    Counted::Marks(marks_of(table))
+}
+
+// How many marks are left after accepting a pair; a pair that is not yes is refused as its offer would be.
+pub fn score(table: Table, lender: Wire, taker: Wire) -> Counted
+    ensures { λ r. ⌜ tallied r ≡ scoreOf table (lender .0) (taker .0) ⌝ }
+{
+    let reply = judge(table, lender, taker);
+    match reply {
+        Reply::Taken => Counted::Marks(marks_of(accept(table, lender.0, taker.0))),
+        Reply::Refused(refusal) => Counted::Refused(refusal),
+    }
+}

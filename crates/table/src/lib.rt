@@ -1,13 +1,17 @@
 // The table of possible reuse pairs: which wire may lend to which, what an offer makes of it, and its bytes.
 pub mod answers;
-pub mod counting;
-pub mod offering;
-pub mod rows;
+mod counting;
+mod offering;
+mod rows;
 pub mod tables;
 
 pub use answers::Counted;
 pub use answers::Offered;
 pub use answers::Permission;
 pub use answers::Reply;
+pub use counting::count;
+pub use counting::score;
+pub use offering::may;
+pub use offering::offer;
 pub use tables::Row;
 pub use tables::Table;

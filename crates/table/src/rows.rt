@@ -8,9 +8,10 @@ ghost use Rattle.bits.specs.Bits.{bit, pack};
 ghost use Rattle.table.specs.Limits.{mostWires};
 ghost use Rattle.table.specs.Marks.{used, free, countsAmong};
 ghost use Rattle.table.specs.Rule.{rowAfter, usedAfter};
+ghost use Rattle.table.specs.Changes.{changed};
 
-// What an accepted offer changes in every row: the lenders and the takers that stay or were free, the marks that
-// count in the lender's own row, and the taker.
+// What an accepted offer is for every row: the other free lenders, the free takers, the marks of the lender's own row
+// that count, and the taker.
 pub struct Change {
     pub lenders: Row,
     pub takers: Row,
@@ -89,4 +90,12 @@ fn left(given: Row, row: Row, taker: u8) -> Row
     } else {
         row & given
     }
+}
+
+// The row of one wire after an accepted offer.
+pub fn row_after(change: Change, row: Row, wire: u8) -> Row
+    ensures { λ r. ⌜ r ≡ pack mostWires (changed change row wire) ⌝ }
+{
+    let marks = counting(change.lenders, change.takers, row, wire);
+    left(change.given, marks, change.taker)
 }

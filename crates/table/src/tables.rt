@@ -17,6 +17,7 @@ pub struct Table {
 impl Table {
     // The most wires.
     pub const MOST: u8 = 32;
+
     pub const ROWS: usize = Table::MOST as usize;
 
     // No wires and no marks.

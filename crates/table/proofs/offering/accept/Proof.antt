@@ -1,0 +1,108 @@
+-- `table::offering::accept` meets its contract: before turn u the rows below u are what the rule leaves of them. Assumes nothing.
+use Prim.Native.Nat.{ℕ, _≤_, _<_, _-_, _^_}
+use mathlib.Core.Path.{_≡_, refl, ap, _∙_}
+use native.Mathlib.Nat.{not-suc-le-zero}
+use native.Mathlib.Omega.{arith}
+use borrow.Author.Needs.{needs}
+use lib.Dec.{lit≤}
+use lib.ListN.{length, getD, length-set}
+use mir.Syntax.{w32}
+use Rattle.bits.specs.Bits.{pack}
+use Rattle.bits.proofs.Lists.{filled, each-eq}
+use Rattle.bits.proofs.Arrays.{array-fit}
+use Rattle.table.specs.Limits.{mostWires}
+use Rattle.table.specs.Marks.{counts}
+use Rattle.table.specs.Rule.{markAfter, accepted}
+use Rattle.table.specs.Changes.{changed}
+use Rattle.table.specs.declared.rows.Change.{Change}
+use Rattle.table.proofs.TableMarks.{row-changed}
+use Rattle.table.proofs.offering.accept.Statement.{statement}
+use Rattle.table.proofs.offering.accept.Tie as tie
+
+abbrev Inv-loop : tie.InvT-loop
+Inv-loop lender taker table change rows₀ u₀ rows u =
+    (u ≤ mostWires) × (length rows ≡ mostWires) × ((j : ℕ) → j < u → getD rows j 0 ≡ pack mostWires (markAfter (counts table) lender taker j))
+
+abbrev μ-loop : tie.MeasureT-loop
+μ-loop lender taker table change rows₀ u₀ rows u = mostWires - u
+
+change-of-requires : tie.Need-change-of-requires Inv-loop μ-loop
+change-of-requires c κs = search needs
+
+loop-holds : tie.Need-loop-holds Inv-loop μ-loop
+loop-holds c = (lit≤ tt, refl, λ j l. absurd (not-suc-le-zero l))
+
+cast-row-after : tie.Need-cast-row-after Inv-loop μ-loop
+cast-row-after c = search needs
+
+mul-row-after : tie.Need-mul-row-after Inv-loop μ-loop
+mul-row-after c = search needs
+
+element-copy-out-row-after : tie.Need-element-copy-out-row-after Inv-loop μ-loop
+element-copy-out-row-after c = search needs
+
+row-after-requires : tie.Need-row-after-requires Inv-loop μ-loop
+row-after-requires c κs = search needs
+
+cast-rows : tie.Need-cast-rows Inv-loop μ-loop
+cast-rows c = search needs
+
+mul-rows : tie.Need-mul-rows Inv-loop μ-loop
+mul-rows c = search needs
+
+array-write-rows : tie.Need-array-write-rows Inv-loop μ-loop
+array-write-rows c = search needs
+
+add-u : tie.Need-add-u Inv-loop μ-loop
+add-u c = search needs
+
+loop-less : tie.Need-loop-less Inv-loop μ-loop
+loop-less c = search needs
+
+loop-again : tie.Need-loop-again Inv-loop μ-loop
+loop-again c = let h = c .before .before .before .loop in
+    let a = c .before .before .before .before .before in
+    let t = a .args .t1 in
+    let fits : getD (t .rows) (h .u) 0 < 2 ^ mostWires = array-fit w32 mostWires (t .rows) _ (a .good .0 .1 .1 .1 .0) (h .u) in
+    let row = c .row-after .ensures
+    ∙ ap (λ (x : Change). pack mostWires (changed x (getD (t .rows) (h .u) 0) (h .u))) (c .before .before .before .before .change-of .ensures)
+    ∙ row-changed t (a .args .lender) (a .args .taker) (h .u) fits (omega arith) in (
+      search needs,
+      simp length-set (h .inv .1),
+      filled (λ u. pack mostWires (markAfter (counts t) (a .args .lender) (a .args .taker) u)) (h .rows) (h .u) (c .row-after .result) (search needs) (h .inv .2) row,
+    )
+
+use-wire-requires : tie.Need-use-wire-requires Inv-loop μ-loop
+use-wire-requires c κs = search needs
+
+use-wire-requires-2 : tie.Need-use-wire-requires-2 Inv-loop μ-loop
+use-wire-requires-2 c κs = search needs
+
+returns : tie.Need-returns Inv-loop μ-loop
+unfolding accepted
+returns c = let a = c .before .before .before .before .before .args in
+    let h = c .before .before .before .loop in
+    let rows = each-eq mostWires (λ u. pack mostWires (markAfter (counts (a .t1)) (a .lender) (a .taker) u)) (h .rows) (h .inv .1) (λ u l. h .inv .2 u (omega arith)) in
+    λ i. record { width = a .t1 .width; rows = rows i; lending = c .before .use-wire .ensures i; taking = c .use-wire2 .ensures i }
+
+pub accept-spec : {M : Type 1} → statement M
+accept-spec =
+    tie.close
+    (tie.spec
+    Inv-loop
+    μ-loop
+    change-of-requires
+    loop-holds
+    cast-row-after
+    mul-row-after
+    element-copy-out-row-after
+    row-after-requires
+    cast-rows
+    mul-rows
+    array-write-rows
+    add-u
+    loop-less
+    loop-again
+    use-wire-requires
+    use-wire-requires-2
+    returns)
