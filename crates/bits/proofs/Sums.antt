@@ -30,7 +30,7 @@ total-mono zero f g h = zero-le
 total-mono (suc k) f g h = omega (arith, total-mono k f g (λ i l. h i (omega arith)), h k (le-refl (suc k)))
 
 -- and is smaller where one part is
-total-less : (k : ℕ) (f g : ℕ → ℕ) → ((i : ℕ) → i < k → f i ≤ g i) → (j : ℕ) → j < k → f j < g j → total k f < total k g
+pub total-less : (k : ℕ) (f g : ℕ → ℕ) → ((i : ℕ) → i < k → f i ≤ g i) → (j : ℕ) → j < k → f j < g j → total k f < total k g
 unfolding total
 total-less zero f g h j l s = absurd (not-suc-le-zero l)
 total-less (suc k) f g h j l s =

@@ -1,3 +1,5 @@
 pub mod RowBits
 pub mod TableMarks
 pub mod Judgements
+pub mod Updates
+pub mod Offers

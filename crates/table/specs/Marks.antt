@@ -1,6 +1,7 @@
 -- A table read as marks: which of its bits count, which wires lend and which take.
-use Prim.Native.Nat.{ℕ}
-use mathlib.Core.Bool.{Bool, not, _&&_}
+use Prim.Native.Nat.{ℕ, _<_}
+use mathlib.Core.Path.{_≡_}
+use mathlib.Core.Bool.{Bool, true, not, _&&_}
 use lib.Dec.{eqb, ltb}
 use lib.ListN.{getD, replicate}
 use Rattle.bits.specs.Bits.{bit, total, tally}
@@ -39,3 +40,9 @@ marksOf t = total mostWires (λ lender. tally mostWires (counts t lender))
 -- no wires and no marks
 unfoldable pub emptyTable : Table
 emptyTable = record { width = 0; rows = replicate mostWires 0; lending = 0; taking = 0 }
+
+-- every set mark counts, and no used mark is at or above the width
+pub record Clean (t : Table) : Type 0 where
+  pub marks : (u v : ℕ) → bit v (getD (t .rows) u 0) ≡ true → counts t u v ≡ true
+  pub lenders : (u : ℕ) → bit u (t .lending) ≡ true → u < t .width
+  pub takers : (v : ℕ) → bit v (t .taking) ≡ true → v < t .width

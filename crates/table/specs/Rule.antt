@@ -1,10 +1,11 @@
 -- Document 01's rule of the update, on marks, and the table that an accepted offer leaves.
-use Prim.Native.Nat.{ℕ}
+use Prim.Native.Nat.{ℕ, _<_}
+use mathlib.Core.Path.{_≡_}
 use mathlib.Core.Bool.{Bool, not, _&&_, _||_}
 use lib.Dec.{eqb}
 use Rattle.bits.specs.Bits.{pack, each}
 use Rattle.table.specs.Limits.{mostWires}
-use Rattle.table.specs.Marks.{counts, lends, takes}
+use Rattle.table.specs.Marks.{counts, lends, takes, marksOf, Clean}
 use Rattle.table.specs.declared.tables.Table.{Table}
 
 -- one row after the offer: no at the taker; and no at each v where the lender's row, `given`, has no, if this row has no at the taker
@@ -27,3 +28,12 @@ accepted t lender taker = record {
   lending = pack mostWires (usedAfter (lends t) lender);
   taking = pack mostWires (usedAfter (takes t) taker);
 }
+
+-- `after` is `before` once the lender lends to the taker: its marks are what the rule leaves, fewer count, and it is clean
+pub record Updated (before : Table) (lender taker : ℕ) (after : Table) : Type 0 where
+  pub width : after .width ≡ before .width
+  pub marks : (u v : ℕ) → counts after u v ≡ markAfter (counts before) lender taker u v
+  pub lenders : (u : ℕ) → lends after u ≡ usedAfter (lends before) lender u
+  pub takers : (v : ℕ) → takes after v ≡ usedAfter (takes before) taker v
+  pub clean : Clean after
+  pub fewer : marksOf after < marksOf before
