@@ -3,3 +3,4 @@ pub mod TableMarks
 pub mod Judgements
 pub mod Updates
 pub mod Offers
+pub mod SavedTables

@@ -3,3 +3,4 @@ pub mod Marks
 pub mod Rule
 pub mod Changes
 pub mod Calls
+pub mod TableBytes

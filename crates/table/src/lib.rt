@@ -3,6 +3,7 @@ pub mod answers;
 mod counting;
 mod offering;
 mod rows;
+mod saving;
 pub mod tables;
 
 pub use answers::Counted;
@@ -13,5 +14,7 @@ pub use counting::count;
 pub use counting::score;
 pub use offering::may;
 pub use offering::offer;
+pub use saving::table_of;
+pub use saving::write_table;
 pub use tables::Row;
 pub use tables::Table;

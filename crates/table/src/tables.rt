@@ -20,6 +20,11 @@ impl Table {
 
     pub const ROWS: usize = Table::MOST as usize;
 
+    // The bytes of a row, and of the whole table: the width, the rows, the used lenders and the used takers.
+    pub const ROW_BYTES: usize = 4;
+
+    pub const BYTES: usize = 1 + Table::ROW_BYTES * (Table::ROWS + 2);
+
     // No wires and no marks.
     pub fn empty() -> Table
         ensures { λ r. ⌜ r ≡ emptyTable ⌝ }

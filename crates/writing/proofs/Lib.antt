@@ -1,2 +1,4 @@
 pub mod Puts
 pub mod Remaining
+pub mod Digits
+pub mod Reading

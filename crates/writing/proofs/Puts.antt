@@ -2,10 +2,12 @@
 use mathlib.Core.Bool.{Bool, true, false}
 use mathlib.Core.Path.{_≡_, refl, sym, ap, subst, _∙_}
 use mathlib.Core.List.{List, [], _∷_, _++_, append-assoc}
+use mathlib.Core.Path.{_≡_, refl, sym, ap, _∙_}
+use mathlib.Core.List.{List, [], _∷_, _++_, append-assoc, append-nil}
 use Prim.Native.Nat.{ℕ, _+_, _≤_, _<_}
 use native.Mathlib.Omega.{arith}
 use native.Mathlib.Numerals.{add-one}
-use lib.ListN.{length, take, drop, set, length-append, length-take, length-drop, take-append-drop}
+use lib.ListN.{length, take, drop, set, length-append, length-take, length-drop, take-append-drop, drop-of-length-le}
 use lib.Seq.{set-split, take-at, drop-at, drop-drop, length-take-le}
 use borrow.Author.Tests.{le-leb, lt-leb, le-ltb, lt-ltb, leb-true}
 use Rattle.basics.specs.Choice.{pick}
@@ -70,6 +72,9 @@ wrote-on {old} {at} {xs} {mid} {seam} {ys} {new} {to} l v w = record {
   holds = w .holds ∙ rw (v .holds, v .end) (put-put old at xs ys l);
   end = omega (arith, v .end, w .end, length-append xs ys);
 }
+-- a buffer that is written whole
+pub put-whole : (old xs : List ℕ) → length old ≡ length xs → put old 0 xs ≡ xs
+put-whole old xs e = put-start old xs ∙ ap (λ (z : List ℕ). xs ++ z) (drop-of-length-le old {i = length xs} (omega arith)) ∙ append-nil xs
 
 -- where there is room, what was placed was written
 module _ {old : List ℕ} {at : ℕ} {xs new : List ℕ} {to : ℕ} where

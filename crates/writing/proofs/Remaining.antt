@@ -1,5 +1,5 @@
 -- What is still to be written: the invariant of every loop and row of calls that fills a buffer. One law to start,
--- one for a store, one for a call, one to end. Assumes nothing.
+-- one for a store, one for each kind of call, one to end. Assumes nothing.
 use mathlib.Core.Path.{_≡_, refl, sym, ap, _∙_}
 use mathlib.Core.List.{List, [], _∷_, _++_}
 use Prim.Native.Nat.{ℕ, _+_, _≤_, _<_}
@@ -7,8 +7,8 @@ use native.Mathlib.Omega.{arith}
 use native.Mathlib.Numerals.{add-one}
 use lib.ListN.{length, getD, drop, set, length-append, length-set}
 use lib.Seq.{drop-cons}
-use Rattle.writing.specs.Writing.{put, Wrote}
-use Rattle.writing.proofs.Puts.{put-none, length-put, put-put, put-store}
+use Rattle.writing.specs.Writing.{put, Wrote, Placed}
+use Rattle.writing.proofs.Puts.{put-none, length-put, put-put, put-store, placed-wrote}
 
 -- once `rest` is put into `out` at `to`, `all` stands over `old` from `at` on
 pub record Remaining (old : List ℕ) (at : ℕ) (all out : List ℕ) (to : ℕ) (rest : List ℕ) : Type 0 where
@@ -47,6 +47,11 @@ module _ {old : List ℕ} {at : ℕ} {all out : List ℕ} {to : ℕ} where
         size = omega (arith, w .end, parts, g .size);
         goes = rw (w .holds, w .end) (put-put out to xs rest (omega (arith, fits, parts))) ∙ g .goes;
       }
+
+  -- the same of a call that places it where there is room
+  pub remaining-placed : {xs new : List ℕ} {end : ℕ} (rest : List ℕ) → Placed out to xs new end → Remaining old at all out to (xs ++ rest)
+      → Remaining old at all new end rest
+  remaining-placed {xs} rest p g = remaining-call rest (placed-wrote p (omega (arith, remaining-fits g, length-append xs rest))) g
 
   -- nothing is left
   pub remaining-end : {rest : List ℕ} → rest ≡ [] → Remaining old at all out to rest → Wrote old at all out to
