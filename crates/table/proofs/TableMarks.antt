@@ -41,8 +41,8 @@ module _ (t : Table) (lender : ℕ) where
 -- what a change leaves of a row, by the marks of that row that count
 pub change-left : (c : Change) (row wire m : ℕ) → row < 2 ^ mostWires
     → m ≡ pack mostWires (countsAmong (λ i. bit i (c .lenders)) (λ i. bit i (c .takers)) row wire)
-    → pack mostWires (rowAfter (λ v. bit v (c .given)) (λ v. bit v m) (c .taker)) ≡ pack mostWires (changed c row wire)
-change-left c row wire m fits e = left-is mostWires (c .given) (c .taker) _ m (marked mostWires (λ i. bit i (c .lenders)) (λ i. bit i (c .takers)) row wire fits m e)
+    → pack mostWires (rowAfter (λ v. bit v (c .given)) (λ v. bit v m) (c .taker .0)) ≡ pack mostWires (changed c row wire)
+change-left c row wire m fits e = left-is mostWires (c .given) (c .taker .0) _ m (marked mostWires (λ i. bit i (c .lenders)) (λ i. bit i (c .takers)) row wire fits m e)
 
 spread : (a b c d e : Bool) → (b && ((a && c) && (d || (a && e)))) ≡ (a && (b && (c && (d || e))))
 spread true b c d e = refl

@@ -3,8 +3,9 @@ use crate::answers::Counted;
 use crate::answers::Reply;
 use crate::offering::accept;
 use crate::offering::judge;
-use crate::offering::marks;
 use crate::offering::wrong_width;
+use crate::rows::counting;
+use crate::rows::unused;
 use crate::tables::Table;
 use records::Refusal;
 use records::Wire;
@@ -15,15 +16,18 @@ ghost use Rattle.table.specs.Calls.{countOf, scoreOf, tallied};
 fn marks_of(table: Table) -> u32
     ensures { λ r. ⌜ r ≡ marksOf table ⌝ }
 {
+    let lenders = unused(table.width, table.lending);
+    let takers = unused(table.width, table.taking);
     let mut n: u32 = 0;
     let mut u: u8 = 0;
     while u < Table::MOST {
-        n += u32::count_ones(marks(table, u));
+        n += u32::count_ones(counting(lenders, takers, table.rows[u as usize], Wire(u)));
         u += 1;
     }
     n
 }
 
+// How many marks count.
 pub fn count(table: Table) -> Counted
     ensures { λ r. ⌜ tallied r ≡ countOf table ⌝ }
 {
@@ -42,7 +46,7 @@ pub fn score(table: Table, lender: Wire, taker: Wire) -> Counted
 {
     let reply = judge(table, lender, taker);
     match reply {
-        Reply::Taken => Counted::Marks(marks_of(accept(table, lender.0, taker.0))),
+        Reply::Taken => Counted::Marks(marks_of(accept(table, lender, taker))),
         Reply::Refused(refusal) => Counted::Refused(refusal),
     }
 }

@@ -24,21 +24,21 @@ ghost use Rattle.table.specs.Changes.{changeOf};
 ghost use Rattle.table.specs.Calls.{wrongWidth, outsideWidth, mayLend, judged, offered, permitted, replied, settled};
 
 // The marks of one lender's row that count.
-pub fn marks(table: Table, lender: u8) -> Row
-    ensures { λ r. ⌜ r ≡ pack mostWires (counts table lender) ⌝ }
+pub fn marks(table: Table, lender: Wire) -> Row
+    ensures { λ r. ⌜ r ≡ pack mostWires (counts table (lender .0)) ⌝ }
 {
-    if lender < Table::MOST {
+    if lender.0 < Table::MOST {
         let lenders = unused(table.width, table.lending);
         let takers = unused(table.width, table.taking);
-        counting(lenders, takers, table.rows[lender as usize], lender)
+        counting(lenders, takers, table.rows[lender.0 as usize], lender)
     } else {
         0
     }
 }
 
 // Whether the mark of a pair counts.
-fn is_yes(table: Table, lender: u8, taker: u8) -> bool
-    ensures { λ r. ⌜ r ≡ counts table lender taker ⌝ }
+fn is_yes(table: Table, lender: Wire, taker: Wire) -> bool
+    ensures { λ r. ⌜ r ≡ counts table (lender .0) (taker .0) ⌝ }
 {
     has(marks(table, lender), taker)
 }
@@ -55,16 +55,17 @@ pub fn wrong_width(table: Table) -> bool
 }
 
 // Whether the lender or the taker is not below the width.
-fn outside(table: Table, lender: u8, taker: u8) -> bool
-    ensures { λ r. ⌜ r ≡ outsideWidth table lender taker ⌝ }
+fn outside(table: Table, lender: Wire, taker: Wire) -> bool
+    ensures { λ r. ⌜ r ≡ outsideWidth table (lender .0) (taker .0) ⌝ }
 {
-    if table.width <= lender {
+    if table.width <= lender.0 {
         true
     } else {
-        table.width <= taker
+        table.width <= taker.0
     }
 }
 
+// Whether the lender may lend to the taker; no for numbers at or above the width.
 pub fn may(table: Table, lender: Wire, taker: Wire) -> Permission
     ensures { λ r. ⌜ permitted r ≡ mayLend table (lender .0) (taker .0) ⌝ }
 {
@@ -74,7 +75,7 @@ pub fn may(table: Table, lender: Wire, taker: Wire) -> Permission
             place: 0,
         });
     }
-    if is_yes(table, lender.0, taker.0) {
+    if is_yes(table, lender, taker) {
         Permission::Yes
     } else {
         Permission::No
@@ -94,16 +95,16 @@ pub fn judge(table: Table, lender: Wire, taker: Wire) -> Reply
     if wrong_width(table) {
         return refuse(27);
     }
-    if outside(table, lender.0, taker.0) {
+    if outside(table, lender, taker) {
         return refuse(20);
     }
-    if has(table.lending, lender.0) {
+    if has(table.lending, lender) {
         return refuse(21);
     }
-    if has(table.taking, taker.0) {
+    if has(table.taking, taker) {
         return refuse(22);
     }
-    if is_yes(table, lender.0, taker.0) {
+    if is_yes(table, lender, taker) {
         Reply::Taken
     } else {
         refuse(23)
@@ -111,8 +112,8 @@ pub fn judge(table: Table, lender: Wire, taker: Wire) -> Reply
 }
 
 // What an offer is for every row.
-fn change_of(table: Table, lender: u8, taker: u8) -> Change
-    ensures { λ r. ⌜ r ≡ changeOf table lender taker ⌝ }
+fn change_of(table: Table, lender: Wire, taker: Wire) -> Change
+    ensures { λ r. ⌜ r ≡ changeOf table (lender .0) (taker .0) ⌝ }
 {
     Change {
         lenders: without(unused(table.width, table.lending), lender),
@@ -123,14 +124,14 @@ fn change_of(table: Table, lender: u8, taker: u8) -> Change
 }
 
 // The table after an offer that is taken.
-pub fn accept(table: Table, lender: u8, taker: u8) -> Table
-    ensures { λ r. ⌜ r ≡ accepted table lender taker ⌝ }
+pub fn accept(table: Table, lender: Wire, taker: Wire) -> Table
+    ensures { λ r. ⌜ r ≡ accepted table (lender .0) (taker .0) ⌝ }
 {
     let change = change_of(table, lender, taker);
     let mut rows = [0; Table::ROWS];
     let mut u: u8 = 0;
     while u < Table::MOST {
-        rows[u as usize] = row_after(change, table.rows[u as usize], u);
+        rows[u as usize] = row_after(change, table.rows[u as usize], Wire(u));
         u += 1;
     }
     Table {
@@ -148,7 +149,7 @@ pub fn offer(table: Table, lender: Wire, taker: Wire) -> Offered
     let reply = judge(table, lender, taker);
     match reply {
         Reply::Taken => {
-            let after = accept(table, lender.0, taker.0);
+            let after = accept(table, lender, taker);
             Offered {
                 reply: Reply::Taken,
                 table: after,

@@ -1,6 +1,7 @@
 // Rows of marks, one at a time: which of them count, and what an accepted offer leaves of them.
 use crate::tables::Row;
 use crate::tables::Table;
+use records::Wire;
 ghost use mathlib.Core.Path.{_≡_};
 ghost use mathlib.Core.Bool.{_&&_, _||_, not};
 ghost use lib.Dec.{ltb, eqb};
@@ -16,15 +17,15 @@ pub struct Change {
     pub lenders: Row,
     pub takers: Row,
     pub given: Row,
-    pub taker: u8,
+    pub taker: Wire,
 }
 
 // The mark of one wire.
-pub fn has(row: Row, wire: u8) -> bool
-    ensures { λ r. ⌜ r ≡ bit wire row ⌝ }
+pub fn has(row: Row, wire: Wire) -> bool
+    ensures { λ r. ⌜ r ≡ bit (wire .0) row ⌝ }
 {
-    if wire < Table::MOST {
-        (row >> wire) % 2 == 1
+    if wire.0 < Table::MOST {
+        (row >> wire.0) % 2 == 1
     } else {
         false
     }
@@ -42,11 +43,11 @@ fn below(width: u8) -> Row
 }
 
 // A row without the mark of one wire.
-pub fn without(row: Row, wire: u8) -> Row
-    ensures { λ r. ⌜ r ≡ pack mostWires (λ v. not (eqb v wire) && bit v row) ⌝ }
+pub fn without(row: Row, wire: Wire) -> Row
+    ensures { λ r. ⌜ r ≡ pack mostWires (λ v. not (eqb v (wire .0)) && bit v row) ⌝ }
 {
-    if wire < Table::MOST {
-        !(1 << wire) & row
+    if wire.0 < Table::MOST {
+        !(1 << wire.0) & row
     } else {
         row
     }
@@ -60,19 +61,19 @@ pub fn unused(width: u8, row: Row) -> Row
 }
 
 // The used wires, with one wire more.
-pub fn use_wire(width: u8, row: Row, wire: u8) -> Row
-    ensures { λ r. ⌜ r ≡ pack mostWires (usedAfter (used width row) wire) ⌝ }
+pub fn use_wire(width: u8, row: Row, wire: Wire) -> Row
+    ensures { λ r. ⌜ r ≡ pack mostWires (usedAfter (used width row) (wire .0)) ⌝ }
 {
-    if wire < Table::MOST {
-        (1 << wire) | (below(width) & row)
+    if wire.0 < Table::MOST {
+        (1 << wire.0) | (below(width) & row)
     } else {
         below(width) & row
     }
 }
 
 // The marks of a lender's row that count, by the free lenders and the free takers.
-pub fn counting(lenders: Row, takers: Row, row: Row, lender: u8) -> Row
-    ensures { λ r. ⌜ r ≡ pack mostWires (countsAmong (λ i. bit i lenders) (λ i. bit i takers) row lender) ⌝ }
+pub fn counting(lenders: Row, takers: Row, row: Row, lender: Wire) -> Row
+    ensures { λ r. ⌜ r ≡ pack mostWires (countsAmong (λ i. bit i lenders) (λ i. bit i takers) row (lender .0)) ⌝ }
 {
     if has(lenders, lender) {
         without(row & takers, lender)
@@ -82,8 +83,8 @@ pub fn counting(lenders: Row, takers: Row, row: Row, lender: u8) -> Row
 }
 
 // What an offer leaves of a row whose marks all count.
-fn left(given: Row, row: Row, taker: u8) -> Row
-    ensures { λ r. ⌜ r ≡ pack mostWires (rowAfter (λ v. bit v given) (λ v. bit v row) taker) ⌝ }
+fn left(given: Row, row: Row, taker: Wire) -> Row
+    ensures { λ r. ⌜ r ≡ pack mostWires (rowAfter (λ v. bit v given) (λ v. bit v row) (taker .0)) ⌝ }
 {
     if has(row, taker) {
         without(row, taker)
@@ -93,8 +94,8 @@ fn left(given: Row, row: Row, taker: u8) -> Row
 }
 
 // The row of one wire after an accepted offer.
-pub fn row_after(change: Change, row: Row, wire: u8) -> Row
-    ensures { λ r. ⌜ r ≡ pack mostWires (changed change row wire) ⌝ }
+pub fn row_after(change: Change, row: Row, wire: Wire) -> Row
+    ensures { λ r. ⌜ r ≡ pack mostWires (changed change row (wire .0)) ⌝ }
 {
     let marks = counting(change.lenders, change.takers, row, wire);
     left(change.given, marks, change.taker)

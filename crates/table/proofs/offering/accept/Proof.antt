@@ -21,7 +21,7 @@ use Rattle.table.proofs.offering.accept.Tie as tie
 
 abbrev Inv-loop : tie.InvT-loop
 Inv-loop lender taker table change rows₀ u₀ rows u =
-    (u ≤ mostWires) × (length rows ≡ mostWires) × ((j : ℕ) → j < u → getD rows j 0 ≡ pack mostWires (markAfter (counts table) lender taker j))
+    (u ≤ mostWires) × (length rows ≡ mostWires) × ((j : ℕ) → j < u → getD rows j 0 ≡ pack mostWires (markAfter (counts table) (lender .0) (taker .0) j))
 
 abbrev μ-loop : tie.MeasureT-loop
 μ-loop lender taker table change rows₀ u₀ rows u = mostWires - u
@@ -66,10 +66,10 @@ loop-again c = let h = c .before .before .before .loop in
     let fits : getD (t .rows) (h .u) 0 < 2 ^ mostWires = array-fit w32 mostWires (t .rows) _ (a .good .0 .1 .1 .1 .0) (h .u) in
     let row = c .row-after .ensures
     ∙ ap (λ (x : Change). pack mostWires (changed x (getD (t .rows) (h .u) 0) (h .u))) (c .before .before .before .before .change-of .ensures)
-    ∙ row-changed t (a .args .lender) (a .args .taker) (h .u) fits (omega arith) in (
+    ∙ row-changed t (a .args .lender .0) (a .args .taker .0) (h .u) fits (omega arith) in (
       search needs,
       simp length-set (h .inv .1),
-      filled (λ u. pack mostWires (markAfter (counts t) (a .args .lender) (a .args .taker) u)) (h .rows) (h .u) (c .row-after .result) (search needs) (h .inv .2) row,
+      filled (λ u. pack mostWires (markAfter (counts t) (a .args .lender .0) (a .args .taker .0) u)) (h .rows) (h .u) (c .row-after .result) (search needs) (h .inv .2) row,
     )
 
 use-wire-requires : tie.Need-use-wire-requires Inv-loop μ-loop
@@ -82,7 +82,7 @@ returns : tie.Need-returns Inv-loop μ-loop
 unfolding accepted
 returns c = let a = c .before .before .before .before .before .args in
     let h = c .before .before .before .loop in
-    let rows = each-eq mostWires (λ u. pack mostWires (markAfter (counts (a .t1)) (a .lender) (a .taker) u)) (h .rows) (h .inv .1) (λ u l. h .inv .2 u (omega arith)) in
+    let rows = each-eq mostWires (λ u. pack mostWires (markAfter (counts (a .t1)) (a .lender .0) (a .taker .0) u)) (h .rows) (h .inv .1) (λ u l. h .inv .2 u (omega arith)) in
     λ i. record { width = a .t1 .width; rows = rows i; lending = c .before .use-wire .ensures i; taking = c .use-wire2 .ensures i }
 
 pub accept-spec : {M : Type 1} → statement M

@@ -18,8 +18,8 @@ has-requires c κs = search needs
 
 returns : tie.Need-returns
 returns c = let a = c .before .before in
-    let fits : getD (a .args .table .rows) (a .args .lender) 0 < 2 ^ mostWires = array-fit w32 mostWires (a .args .table .rows) _ (a .good .0 .1 .1 .1 .0) (a .args .lender) in
-    c .has .ensures ∙ yes-is (a .args .table) (a .args .lender) fits _ (c .before .marks .ensures) (a .args .taker)
+    let fits : getD (a .args .table .rows) (a .args .lender .0) 0 < 2 ^ mostWires = array-fit w32 mostWires (a .args .table .rows) _ (a .good .0 .1 .1 .1 .0) (a .args .lender .0) in
+    c .has .ensures ∙ yes-is (a .args .table) (a .args .lender .0) fits _ (c .before .marks .ensures) (a .args .taker .0)
 
 pub is-yes-spec : {M : Type 1} → statement M
 is-yes-spec = tie.close (tie.spec marks-requires has-requires returns)

@@ -17,6 +17,9 @@ unused-requires c κs = search needs
 unused-requires-2 : tie.Need-unused-requires-2
 unused-requires-2 c κs = search needs
 
+cast-counting : tie.Need-cast-counting
+cast-counting c = search needs
+
 mul-counting : tie.Need-mul-counting
 mul-counting c = search needs
 
@@ -27,14 +30,14 @@ counting-requires : tie.Need-counting-requires
 counting-requires c κs = search needs
 
 returns : tie.Need-returns
-returns c = let a = c .before .before .before .before .before in
-    let fits : getD (a .args .t1 .rows) (a .args .lender) 0 < 2 ^ mostWires = array-fit w32 mostWires (a .args .t1 .rows) _ (a .good .0 .1 .1 .1 .0) (a .args .lender) in
-    c .counting .ensures ∙ row-counts (a .args .t1) (a .args .lender) fits (record { is = c .before .before .before .unused .ensures }) (record { is = c .before .before .unused2 .ensures }) (search needs)
+returns c = let a = c .before .before .before .before .before .before .before in
+    let fits : getD (a .args .t1 .rows) (a .args .lender .0) 0 < 2 ^ mostWires = array-fit w32 mostWires (a .args .t1 .rows) _ (a .good .0 .1 .1 .1 .0) (a .args .lender .0) in
+    c .counting .ensures ∙ row-counts (a .args .t1) (a .args .lender .0) fits (record { is = c .before .before .before .before .unused .ensures }) (record { is = c .before .before .before .unused2 .ensures }) (search needs)
 
 returns-2 : tie.Need-returns-2
-returns-2 c = let a = c .before in
+returns-2 c = let a = c .before .before in
     let n : length (a .args .t1 .rows) ≡ mostWires = array-length w32 mostWires (a .args .t1 .rows) _ (a .good .0 .1 .1 .1 .0) in
-    no-row (a .args .t1) (a .args .lender) (omega arith)
+    no-row (a .args .t1) (a .args .lender .0) (omega arith)
 
 pub marks-spec : {M : Type 1} → statement M
 marks-spec =
@@ -42,6 +45,7 @@ marks-spec =
     (tie.spec
     unused-requires
     unused-requires-2
+    cast-counting
     mul-counting
     element-copy-out-counting
     counting-requires

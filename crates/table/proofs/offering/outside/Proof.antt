@@ -7,7 +7,7 @@ returns : tie.Need-returns
 returns c = rw (le-leb _ _ (c .if1 .taken))
 
 returns-2 : tie.Need-returns-2
-returns-2 c = rw (lt-leb _ _ (c .before .if1 .left))
+returns-2 c = rw (lt-leb _ _ (c .before .before .if1 .left))
 
 pub outside-spec : {M : Type 1} → statement M
 outside-spec = tie.close (tie.spec returns returns-2)

@@ -7,6 +7,9 @@ use borrow.Author.Needs.{needs}
 use Rattle.table.proofs.rows.has.Statement.{statement}
 use Rattle.table.proofs.rows.has.Tie as tie
 
+cast-result : tie.Need-cast-result
+cast-result c = search needs
+
 shr-result : tie.Need-shr-result
 shr-result c = search needs
 
@@ -18,4 +21,4 @@ returns-2 : tie.Need-returns-2
 returns-2 c = sym (bit-past mostWires _ (search needs) (search needs))
 
 pub has-spec : {M : Type 1} → statement M
-has-spec = tie.close (tie.spec shr-result returns returns-2)
+has-spec = tie.close (tie.spec cast-result shr-result returns returns-2)

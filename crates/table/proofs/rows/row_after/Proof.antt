@@ -14,7 +14,7 @@ left-requires c κs = search needs
 returns : tie.Need-returns
 returns c =
     let a = c .before .before .args in
-    c .left .ensures ∙ change-left (a .change) (a .row) (a .wire) _ (search needs) (c .before .counting .ensures)
+    c .left .ensures ∙ change-left (a .change) (a .row) (a .wire .0) _ (search needs) (c .before .counting .ensures)
 
 pub row-after-spec : {M : Type 1} → statement M
 row-after-spec = tie.close (tie.spec counting-requires left-requires returns)
