@@ -1,7 +1,7 @@
 -- Laws of `each`, and of a loop that fills a list from the front. Assumes nothing.
-use mathlib.Core.Path.{_≡_, refl, sym, ap, _∙_}
+use mathlib.Core.Path.{_≡_, refl, sym, ap, ap₂, _∙_}
 use mathlib.Core.Logic.{⊎-elim}
-use mathlib.Core.List.{List, [], _∷_, _++_}
+use mathlib.Core.List.{List, [], _∷_, _++_, append-assoc}
 use Prim.Native.Nat.{ℕ, zero, suc, _+_, _<_}
 use native.Mathlib.Nat.{eq-or-lt-of-le, le-of-suc-le-suc, not-suc-le-zero}
 use native.Mathlib.Omega.{arith}
@@ -28,6 +28,18 @@ getD-each (suc k) f i h =
 pub each-eq : (k : ℕ) (f : ℕ → ℕ) (xs : List ℕ) → length xs ≡ k → ((i : ℕ) → i < k → getD xs i 0 ≡ f i) → xs ≡ each k f
 each-eq k f xs e h =
     ext-getD 0 xs (each k f) (e ∙ sym (length-each k f)) (λ i l. h i (omega arith) ∙ sym (getD-each k f i (omega arith)))
+
+-- the same elements, said otherwise; and two elements more
+pub each-ext : (n : ℕ) (f g : ℕ → ℕ) → ((i : ℕ) → f i ≡ g i) → each n f ≡ each n g
+unfolding each
+each-ext zero f g h = refl
+each-ext (suc n) f g h = ap₂ (λ (xs : List ℕ) (x : ℕ). xs ++ (x ∷ [])) (each-ext n f g h) (h n)
+
+pub each-two : (n : ℕ) (f : ℕ → ℕ) → each n f ++ (f n ∷ f (n + 1) ∷ []) ≡ each (n + 2) f
+unfolding each
+each-two n f =
+    let e : n + 2 ≡ suc (suc n) = omega arith in
+    sym (append-assoc (each n f) (f n ∷ []) (f (n + 1) ∷ [])) ∙ ap (λ (x : ℕ). (each n f ++ (f n ∷ [])) ++ (f x ∷ [])) (add-one n) ∙ ap (λ (x : ℕ). each x f) (sym e)
 
 -- what holds below i, and is stored at i, holds below i + 1
 pub filled : (f : ℕ → ℕ) (xs : List ℕ) (i x : ℕ) → i < length xs → ((j : ℕ) → j < i → getD xs j 0 ≡ f j) → x ≡ f i

@@ -1,11 +1,12 @@
 -- Laws of sums and of counts of bits. Assumes nothing.
 use mathlib.Core.Path.{_≡_, refl, sym, ap, ap₂, _∙_}
 use mathlib.Core.Bool.{Bool, true, false}
-use mathlib.Core.Logic.{_⊎_, inl, inr, ⊎-elim}
+use mathlib.Core.Logic.{⊎-elim}
 use Prim.Native.Nat.{ℕ, zero, suc, _+_, _*_, _≤_, _<_, zero-le}
 use native.Mathlib.Nat.{le-refl, le-of-suc-le-suc, eq-or-lt-of-le, not-suc-le-zero, add-comm, suc-mul}
 use native.Mathlib.Omega.{arith}
 use native.Mathlib.Numerals.{add-one}
+use lib.Dec.{lit<, lit≤}
 use lib.Count.{ones, ones-cat}
 use Rattle.bits.specs.Bits.{digit, pack, total, tally}
 use Rattle.bits.proofs.Packing.{digit-lt, pack-lt}
@@ -24,7 +25,7 @@ tally-le : (k : ℕ) (f : ℕ → Bool) → tally k f ≤ k
 tally-le k f = omega (arith, total-le k 1 (λ i. digit (f i)) (λ i l. le-of-suc-le-suc (digit-lt (f i))))
 
 -- a sum of no larger parts is no larger
-pub total-mono : (k : ℕ) (f g : ℕ → ℕ) → ((i : ℕ) → i < k → f i ≤ g i) → total k f ≤ total k g
+total-mono : (k : ℕ) (f g : ℕ → ℕ) → ((i : ℕ) → i < k → f i ≤ g i) → total k f ≤ total k g
 unfolding total
 total-mono zero f g h = zero-le
 total-mono (suc k) f g h = omega (arith, total-mono k f g (λ i l. h i (omega arith)), h k (le-refl (suc k)))
@@ -40,6 +41,24 @@ total-less (suc k) f g h j l s =
   where
     top : j ≡ k → total k f + f k < total k g + g k
     top e = let s' : f k < g k = rw e at s in omega (arith, total-mono k f g (λ i n. h i (omega arith)))
+
+digit-mono : (a b : Bool) → (a ≡ true → b ≡ true) → digit a ≤ digit b
+digit-mono false b h = zero-le
+digit-mono true b h = rw (h refl) (lit≤ tt)
+
+digit-less : (a b : Bool) → a ≡ false → b ≡ true → digit a < digit b
+digit-less a b e h = rw (e, h) (lit< tt)
+
+-- the same of counts
+module _ (k : ℕ) (f g : ℕ → Bool) (h : (i : ℕ) → f i ≡ true → g i ≡ true) where
+  pub tally-mono : tally k f ≤ tally k g
+  tally-mono = total-mono k (λ i. digit (f i)) (λ i. digit (g i)) (λ i l. digit-mono (f i) (g i) (h i))
+
+  pub tally-less : (j : ℕ) → j < k → f j ≡ false → g j ≡ true → tally k f < tally k g
+  tally-less j l e y =
+      total-less k (λ i. digit (f i)) (λ i. digit (g i)) (λ i m. digit-mono (f i) (g i) (h i)) j l (digit-less (f j) (g j) e y)
+
+-- ---- the set bits of a number
 
 ones-digit : (b : Bool) → ones (digit b) ≡ digit b
 unfolding ones

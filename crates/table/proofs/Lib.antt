@@ -1,3 +1,4 @@
+pub mod Held
 pub mod RowBits
 pub mod TableMarks
 pub mod Judgements

@@ -2,12 +2,12 @@
 use mathlib.Core.Path.{_≡_, refl, sym, ap, ap₂, _∙_}
 use mathlib.Core.Bool.{Bool, true, false, not, _&&_, _||_, true≢false}
 use Prim.Native.Nat.{ℕ, _≤_, _<_}
-use native.Mathlib.Omega.{arith}
 use borrow.Author.Tests.{ltb-true, ltb-false, lt-leb}
-use lib.Dec.{eqb, ltb, leb}
+use lib.Dec.{eqb, ltb}
 use lib.ListN.{getD}
-use Rattle.basics.specs.Outcome.{Outcome, done, refused, handing}
-use Rattle.basics.proofs.Tests.{both, not-both}
+use Rattle.basics.specs.Outcome.{done, refused, handing}
+use Rattle.basics.proofs.Tests.{both}
+use Rattle.basics.proofs.Outcomes.{refused-not-done, handing-value, handing-done}
 use Rattle.bits.specs.Bits.{bit}
 use Rattle.table.specs.Limits.{mostWires}
 use Rattle.table.specs.Marks.{counts}
@@ -48,24 +48,12 @@ module _ (t : Table) (lender taker : ℕ) where
       let u = unused h in
       is-taken t lender taker w (ap₂ _||_ (lt-leb (t .width) lender (u .lender-below)) (lt-leb (t .width) taker (u .taker-below))) (u .lends-not) (u .takes-not) h
 
-refused-not-done : {A : Type 0} (n p : ℕ) (a : A) → _≡_ {A = Outcome A} (refused n p) (done a) → ⊥
-refused-not-done n p a e = let z : _≡_ {A = ℕ} 0 1 = cc in omega arith
-
 width-fits : (t : Table) → wrongWidth t ≡ false → t .width ≤ mostWires
 width-fits t w = go (eqb (t .width) 0) w
   where
     go : (b : Bool) → (b || ltb mostWires (t .width)) ≡ false → t .width ≤ mostWires
     go true h = absurd (true≢false h)
     go false h = ltb-false mostWires (t .width) h
-
--- what a handed value says of the outcome
-handed : {A B : Type 0} (b c : B) (o : Outcome A) → handing b o ≡ done c → c ≡ b
-handed b c (done a) e = cc
-handed b c (refused n p) e = absurd (refused-not-done n p c e)
-
-unit-done : {B : Type 0} (b c : B) (o : Outcome (Unit {0})) → handing b o ≡ done c → o ≡ done tt
-unit-done b c (done tt) e = refl
-unit-done b c (refused n p) e = absurd (refused-not-done n p c e)
 
 module _ (t : Table) (lender taker : ℕ) where
   -- and an offer that is taken has such a mark
@@ -112,12 +100,12 @@ module _ (t : Table) (lender taker : ℕ) where
 
   -- an offer that is taken was a yes
   pub taken-yes : (after : Table) → offered t lender taker ≡ done after → mayLend t lender taker ≡ done true
-  taken-yes after e = may-says (right-width (unit-done (accepted t lender taker) after (judged t lender taker) e)) ∙ ap done (taken-counts (unit-done (accepted t lender taker) after (judged t lender taker) e))
+  taken-yes after e = may-says (right-width (handing-done (accepted t lender taker) after (judged t lender taker) e)) ∙ ap done (taken-counts (handing-done (accepted t lender taker) after (judged t lender taker) e))
 
   -- and its table is updated by the rule
   pub taken-updated : (after : Table) → offered t lender taker ≡ done after → Updated t lender taker after
   taken-updated after e =
-      let taken = unit-done (accepted t lender taker) after (judged t lender taker) e in
+      let taken = handing-done (accepted t lender taker) after (judged t lender taker) e in
       let mark = taken-counts taken in
       let u = unused t lender taker mark in
-      rw (handed (accepted t lender taker) after (judged t lender taker) e) (accepted-updated t lender taker (width-fits t (right-width taken)) (u .lender-below) (u .taker-below) mark)
+      rw (handing-value (accepted t lender taker) after (judged t lender taker) e) (accepted-updated t lender taker (width-fits t (right-width taken)) (u .lender-below) (u .taker-below) mark)

@@ -1,15 +1,13 @@
 -- The bytes of a table, part by part, and the way there and back. Assumes nothing.
-use mathlib.Core.Path.{_≡_, refl, sym, ap, ap₂, _∙_}
-use mathlib.Core.List.{List, [], _∷_, _++_, append-assoc, append-nil}
+use mathlib.Core.Path.{_≡_, sym, ap, ap₂, _∙_}
+use mathlib.Core.List.{List, [], _∷_, _++_, append-nil}
 use Prim.Native.Nat.{ℕ, zero, suc, _+_, _*_, _^_, _≤_, _<_}
-use native.Mathlib.Nat.{mul-suc, le-of-suc-le-suc, not-suc-le-zero}
+use native.Mathlib.Nat.{mul-suc}
 use native.Mathlib.Omega.{arith}
-use native.Mathlib.Numerals.{add-one}
-use lib.Dec.{lit<}
 use lib.ListN.{length, getD, take, drop, length-append, length-drop, List·getD-append}
 use lib.Seq.{getD-at, getD-append-add, getD-drop, take-add, take-all}
 use Rattle.bits.specs.Bits.{each}
-use Rattle.bits.proofs.Lists.{each-eq}
+use Rattle.bits.proofs.Lists.{each-eq, each-ext, each-two}
 use Rattle.writing.specs.Numbers.{byteValues, bytesOf, bytesOfAll, numberOf}
 use Rattle.writing.proofs.Digits.{Bytes, length-bytesOfAll, bytesOfAll-append, number-at, bytes-number}
 use Rattle.table.specs.Limits.{mostWires, rowBytes, tableLength}
@@ -73,17 +71,6 @@ module _ (t : Table) (f : Fits t) where
 
 -- ---- from bytes to a table and back
 
-each-ext : (n : ℕ) (f g : ℕ → ℕ) → ((i : ℕ) → f i ≡ g i) → each n f ≡ each n g
-unfolding each
-each-ext zero f g h = refl
-each-ext (suc n) f g h = ap₂ (λ (xs : List ℕ) (x : ℕ). xs ++ (x ∷ [])) (each-ext n f g h) (h n)
-
-two-more : (n : ℕ) (f : ℕ → ℕ) → each n f ++ (f n ∷ f (n + 1) ∷ []) ≡ each (n + 2) f
-unfolding each
-two-more n f =
-    let e : n + 2 ≡ suc (suc n) = omega arith in
-    sym (append-assoc (each n f) (f n ∷ []) (f (n + 1) ∷ [])) ∙ ap (λ (x : ℕ). (each n f ++ (f n ∷ [])) ++ (f x ∷ [])) (add-one n) ∙ ap (λ (x : ℕ). each x f) (sym e)
-
 -- the bytes of the numbers that bytes say
 all-back : (k n : ℕ) (s : List ℕ) → k * n ≤ length s → Bytes s → bytesOfAll k (each n (λ i. numberOf k (drop (k * i) s))) ≡ take (k * n) s
 unfolding each bytesOfAll
@@ -101,5 +88,5 @@ pub write-back : (s : List ℕ) → length s ≡ tableLength → Bytes s → tab
 unfolding tableOf tableBytes
 write-back [] e h = absurd (omega arith)
 write-back (w ∷ s) e h =
-    ap (λ (x : List ℕ). w ∷ bytesOfAll rowBytes x) (two-more mostWires (setAt (w ∷ s)) ∙ each-ext (mostWires + 2) (setAt (w ∷ s)) (λ i. numberOf rowBytes (drop (rowBytes * i) s)) (after-width w s))
+    ap (λ (x : List ℕ). w ∷ bytesOfAll rowBytes x) (each-two mostWires (setAt (w ∷ s)) ∙ each-ext (mostWires + 2) (setAt (w ∷ s)) (λ i. numberOf rowBytes (drop (rowBytes * i) s)) (after-width w s))
     ∙ ap (λ (x : List ℕ). w ∷ x) (all-back rowBytes (mostWires + 2) s (omega arith) (λ i. h (suc i)) ∙ take-all (rowBytes * (mostWires + 2)) s (omega arith))

@@ -1,5 +1,5 @@
 -- The marks of a table by the bits of its rows. Assumes nothing.
-use mathlib.Core.Path.{_≡_, refl, sym, ap, _∙_}
+use mathlib.Core.Path.{_≡_, refl, ap, _∙_}
 use mathlib.Core.Bool.{Bool, true, false, not, _&&_, _||_}
 use Prim.Native.Nat.{ℕ, _^_, _≤_, _<_, zero-le}
 use lib.Dec.{eqb, lit<}

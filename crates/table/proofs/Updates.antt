@@ -5,15 +5,15 @@ use Prim.Native.Nat.{ℕ, _≤_, _<_, zero-le}
 use native.Mathlib.Omega.{arith}
 use native.Mathlib.Decide.{decLt}
 use borrow.Author.Tests.{le-ltb, ltb-true, ltb-false, ne-eqb, eq-eqb}
-use lib.Dec.{eqb, ltb, lit<, lit≤}
+use lib.Dec.{eqb, ltb, lit<}
 use lib.ListN.{length, getD, List·getD-eq-default}
 use Rattle.basics.proofs.Tests.{not-both, both}
-use Rattle.bits.specs.Bits.{bit, digit, pack, each, total, tally}
+use Rattle.bits.specs.Bits.{bit, pack, each, tally}
 use Rattle.bits.proofs.Packing.{bit-pack, bit-past, pack-lt}
 use Rattle.bits.proofs.Lists.{getD-each, length-each}
-use Rattle.bits.proofs.Sums.{total-mono, total-less}
+use Rattle.bits.proofs.Sums.{total-less, tally-mono, tally-less}
 use Rattle.table.specs.Limits.{mostWires}
-use Rattle.table.specs.Marks.{used, counts, lends, takes, marksOf, Clean}
+use Rattle.table.specs.Marks.{used, counts, lends, takes, marksOf}
 use Rattle.table.specs.Rule.{markAfter, usedAfter, accepted, Updated}
 use Rattle.table.specs.declared.tables.Table.{Table}
 
@@ -137,13 +137,6 @@ module _ (t : Table) (lender taker : ℕ) where
 
 -- ---- fewer marks count
 
-digit-mono : (a b : Bool) → (a ≡ true → b ≡ true) → digit a ≤ digit b
-digit-mono false b h = zero-le
-digit-mono true b h = rw (h refl) (lit≤ tt)
-
-digit-less : (a b : Bool) → a ≡ false → b ≡ true → digit a < digit b
-digit-less a b e h = rw (e, h) (lit< tt)
-
 module _ (t : Table) (lender taker : ℕ) (fits : t .width ≤ mostWires) where
   stays : (u v : ℕ) → counts (accepted t lender taker) u v ≡ true → counts t u v ≡ true
   stays u v h =
@@ -158,15 +151,10 @@ module _ (t : Table) (lender taker : ℕ) (fits : t .width ≤ mostWires) where
   fewer : lender < mostWires → taker < mostWires → counts t lender taker ≡ true → marksOf (accepted t lender taker) < marksOf t
   unfolding marksOf
   fewer hl hk mark =
-      total-less mostWires (λ u. tally mostWires (counts (accepted t lender taker) u)) (λ u. tally mostWires (counts t u)) rows lender hl
-      (total-less mostWires (λ v. digit (counts (accepted t lender taker) lender v)) (λ v. digit (counts t lender v)) (λ v l. one lender v) taker hk
-      (digit-less (counts (accepted t lender taker) lender taker) (counts t lender taker) gone mark))
-    where
-      one : (u v : ℕ) → digit (counts (accepted t lender taker) u v) ≤ digit (counts t u v)
-      one u v = digit-mono _ _ (stays u v)
-
-      rows : (u : ℕ) → u < mostWires → tally mostWires (counts (accepted t lender taker) u) ≤ tally mostWires (counts t u)
-      rows u l = total-mono mostWires (λ v. digit (counts (accepted t lender taker) u v)) (λ v. digit (counts t u v)) (λ v m. one u v)
+      total-less mostWires (λ u. tally mostWires (counts (accepted t lender taker) u)) (λ u. tally mostWires (counts t u))
+      (λ u l. tally-mono mostWires (counts (accepted t lender taker) u) (counts t u) (stays u))
+      lender hl
+      (tally-less mostWires (counts (accepted t lender taker) lender) (counts t lender) (stays lender) taker hk gone mark)
 
 -- ---- all of it
 

@@ -1,14 +1,13 @@
 -- Laws of a number's bytes, at any number of bytes k: how many they are, and the way there and back. Assumes nothing.
-use mathlib.Core.Path.{_≡_, refl, sym, ap, ap₂, _∙_}
+use mathlib.Core.Path.{_≡_, refl, sym, ap, _∙_}
 use mathlib.Core.List.{List, [], _∷_, _++_, append-assoc}
 use Prim.Native.Nat.{ℕ, zero, suc, _+_, _-_, _*_, _/_, _%_, _^_, _≤_, _<_}
 use native.Mathlib.Nat.{pow-suc, not-suc-le-zero, le-of-suc-le-suc, suc-mul, mul-zero, mul-suc, add-comm}
 use native.Mathlib.Decide.{decLt}
 use native.Mathlib.Omega.{arith}
 use native.Mathlib.Numerals.{add-one}
-use lib.Dec.{lit<}
 use lib.ListN.{length, getD, take, drop, length-append, List·getD-eq-default, drop-of-length-le}
-use lib.Seq.{drop-at, drop-cons, drop-drop}
+use lib.Seq.{drop-cons, drop-append-add}
 use Rattle.writing.specs.Numbers.{byteValues, bytesOf, bytesOfAll, numberOf}
 
 pub length-bytesOf : (k n : ℕ) → length (bytesOf k n) ≡ k
@@ -47,7 +46,7 @@ all-none k i ns l = ap (bytesOfAll k) (drop-of-length-le ns {i = i} l)
 
 -- ---- from a number to its bytes and back
 
-pub number-bytes : (k n : ℕ) (rest : List ℕ) → n < byteValues ^ k → numberOf k (bytesOf k n ++ rest) ≡ n
+number-bytes : (k n : ℕ) (rest : List ℕ) → n < byteValues ^ k → numberOf k (bytesOf k n ++ rest) ≡ n
 unfolding bytesOf numberOf
 number-bytes zero n rest h = omega arith
 number-bytes (suc k) n rest h =
@@ -59,16 +58,6 @@ number-bytes (suc k) n rest h =
 -- every byte is one
 abbrev pub Bytes : List ℕ → Type 0
 Bytes s = (i : ℕ) → getD s i 0 < byteValues
-
-power-pos : (k : ℕ) → 0 < byteValues ^ k
-power-pos zero = lit< tt
-power-pos (suc k) = omega (arith, pow-suc byteValues k, power-pos k)
-
-pub number-lt : (k : ℕ) (s : List ℕ) → Bytes s → numberOf k s < byteValues ^ k
-unfolding numberOf
-number-lt zero s h = lit< tt
-number-lt (suc k) [] h = power-pos (suc k)
-number-lt (suc k) (b ∷ s) h = omega (arith, pow-suc byteValues k, number-lt k s (λ i. h (suc i)), h 0)
 
 pub bytes-number : (k : ℕ) (s : List ℕ) → k ≤ length s → Bytes s → bytesOf k (numberOf k s) ≡ take k s
 unfolding bytesOf numberOf
@@ -102,7 +91,7 @@ number-more k at s = go (decLt at (length s))
 
 -- past the first part of a list
 drop-past : (xs ys : List ℕ) (k j : ℕ) → length xs ≡ k → drop (k + j) (xs ++ ys) ≡ drop j ys
-drop-past xs ys k j e = sym (drop-drop j k (xs ++ ys)) ∙ ap (drop j) (drop-at xs ys k e)
+drop-past xs ys k j e = ap (λ (x : ℕ). drop (x + j) (xs ++ ys)) (sym e) ∙ drop-append-add xs ys j
 
 pub number-at : (k : ℕ) (ns : List ℕ) → ((i : ℕ) → getD ns i 0 < byteValues ^ k) → (i : ℕ) → i < length ns
     → numberOf k (drop (k * i) (bytesOfAll k ns)) ≡ getD ns i 0

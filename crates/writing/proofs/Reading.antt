@@ -1,8 +1,8 @@
 -- A loop that reads a number's bytes from the highest down. One law to start, one that the next number fits, one for a
 -- byte, one to end. Assumes nothing.
-use mathlib.Core.Path.{_≡_, refl, sym, ap, ap₂, _∙_}
+use mathlib.Core.Path.{_≡_, sym, ap₂, _∙_}
 use mathlib.Core.List.{List}
-use Prim.Native.Nat.{ℕ, zero, suc, _+_, _-_, _*_, _^_, _≤_, _<_}
+use Prim.Native.Nat.{ℕ, suc, _+_, _-_, _*_, _^_, _≤_, _<_}
 use native.Mathlib.Nat.{pow-suc, pow-le-pow-right, le-refl}
 use native.Mathlib.Omega.{arith}
 use lib.Dec.{lit<}

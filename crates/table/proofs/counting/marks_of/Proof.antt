@@ -6,12 +6,11 @@ use borrow.Author.Needs.{needs}
 use lib.Dec.{lit≤}
 use lib.Count.{ones-le}
 use lib.ListN.{getD}
-use mir.Syntax.{w32}
 use Rattle.bits.specs.Bits.{total, tally}
 use Rattle.bits.proofs.Sums.{tallies-more, tallies-le}
-use Rattle.bits.proofs.Arrays.{array-fit}
 use Rattle.table.specs.Limits.{mostWires}
 use Rattle.table.specs.Marks.{counts, marksOf}
+use Rattle.table.proofs.Held.{row-held}
 use Rattle.table.proofs.TableMarks.{row-counts}
 use Rattle.table.proofs.counting.marks_of.Statement.{statement}
 use Rattle.table.proofs.counting.marks_of.Tie as tie
@@ -57,7 +56,7 @@ loop-less c = search needs
 loop-again : tie.Need-loop-again Inv-loop μ-loop
 loop-again c = let a = c .before .before .before .before .before .before in
     let h = c .before .before .before .loop in
-    let fits : getD (a .args .t1 .rows) (h .u) 0 < 2 ^ mostWires = array-fit w32 mostWires (a .args .t1 .rows) _ (a .good .0 .1 .1 .1 .0) (h .u) in
+    let fits : getD (a .args .t1 .rows) (h .u) 0 < 2 ^ mostWires = row-held (a .args .t1 .rows) (a .good .0 .1 .1 .1 .0) (h .u) in
     let row = c .counting .ensures ∙ row-counts (a .args .t1) (h .u) fits (record { is = c .before .before .before .before .before .unused .ensures }) (record { is = c .before .before .before .before .unused2 .ensures }) (omega arith) in
     (search needs, tallies-more mostWires (counts (a .args .t1)) _ _ _ (h .inv .1) (record { is = row }))
 

@@ -6,15 +6,14 @@ use native.Mathlib.Omega.{arith}
 use borrow.Author.Needs.{needs}
 use lib.Dec.{lit≤}
 use lib.ListN.{length, getD, length-set}
-use mir.Syntax.{w32}
 use Rattle.bits.specs.Bits.{pack}
 use Rattle.bits.proofs.Lists.{filled, each-eq}
-use Rattle.bits.proofs.Arrays.{array-fit}
 use Rattle.table.specs.Limits.{mostWires}
 use Rattle.table.specs.Marks.{counts}
 use Rattle.table.specs.Rule.{markAfter, accepted}
 use Rattle.table.specs.Changes.{changed}
 use Rattle.table.specs.declared.rows.Change.{Change}
+use Rattle.table.proofs.Held.{row-held}
 use Rattle.table.proofs.TableMarks.{row-changed}
 use Rattle.table.proofs.offering.accept.Statement.{statement}
 use Rattle.table.proofs.offering.accept.Tie as tie
@@ -63,7 +62,7 @@ loop-again : tie.Need-loop-again Inv-loop μ-loop
 loop-again c = let h = c .before .before .before .loop in
     let a = c .before .before .before .before .before in
     let t = a .args .t1 in
-    let fits : getD (t .rows) (h .u) 0 < 2 ^ mostWires = array-fit w32 mostWires (t .rows) _ (a .good .0 .1 .1 .1 .0) (h .u) in
+    let fits : getD (t .rows) (h .u) 0 < 2 ^ mostWires = row-held (t .rows) (a .good .0 .1 .1 .1 .0) (h .u) in
     let row = c .row-after .ensures
     ∙ ap (λ (x : Change). pack mostWires (changed x (getD (t .rows) (h .u) 0) (h .u))) (c .before .before .before .before .change-of .ensures)
     ∙ row-changed t (a .args .lender .0) (a .args .taker .0) (h .u) fits (omega arith) in (

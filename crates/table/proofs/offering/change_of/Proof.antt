@@ -1,5 +1,4 @@
 -- `table::offering::change_of` meets its contract. Assumes nothing.
-use mathlib.Core.Path.{_∙_}
 use Rattle.table.proofs.RowBits.{less-is}
 use Rattle.table.specs.Changes.{changeOf}
 use borrow.Author.Needs.{needs}

@@ -1,6 +1,6 @@
 -- `table::offering::offer` meets its contract: the reply is what becomes of the offer. Assumes nothing.
-use mathlib.Core.Path.{_≡_, sym, ap, _∙_}
-use Rattle.basics.specs.Outcome.{Outcome, done, refused, handing, beside}
+use mathlib.Core.Path.{sym, ap, _∙_}
+use Rattle.basics.specs.Outcome.{Outcome, done, handing, beside}
 use Rattle.table.specs.Rule.{accepted}
 use Rattle.table.specs.Calls.{replied}
 use borrow.Author.Needs.{needs}

@@ -1,6 +1,4 @@
 -- `table::offering::wrong_width` meets its contract. Assumes nothing.
-use mathlib.Core.Path.{ap, sym}
-use mathlib.Core.Bool.{Bool, _||_}
 use borrow.Author.Tests.{eq-eqb, ne-eqb}
 use Rattle.table.proofs.offering.wrong_width.Statement.{statement}
 use Rattle.table.proofs.offering.wrong_width.Tie as tie

@@ -1,6 +1,6 @@
 -- `table::saving::row_bytes` meets its contract: the bytes of what is left of the row are what is left to be written.
 -- Assumes nothing.
-use mathlib.Core.Path.{_≡_, refl, sym, _∙_}
+use mathlib.Core.Path.{sym, _∙_}
 use Prim.Native.Nat.{_-_, _≤_}
 use native.Mathlib.Omega.{arith}
 use borrow.Author.Needs.{needs}
@@ -8,7 +8,7 @@ use lib.ListN.{replicate}
 use Rattle.writing.specs.Numbers.{bytesOf}
 use Rattle.writing.proofs.Digits.{length-bytesOf, bytes-next, bytes-none}
 use Rattle.writing.proofs.Puts.{put-whole}
-use Rattle.writing.proofs.Remaining.{Remaining, remaining-start, remaining-fits, remaining-store, remaining-end}
+use Rattle.writing.proofs.Remaining.{Remaining, remaining-start, remaining-store, remaining-end}
 use Rattle.table.specs.Limits.{rowBytes}
 use Rattle.table.proofs.saving.row_bytes.Statement.{statement}
 use Rattle.table.proofs.saving.row_bytes.Tie as tie

@@ -1,6 +1,4 @@
 -- `table::saving::set_at` meets its contract: before each turn the bytes from the i-th on are read. Assumes nothing.
-use mathlib.Core.Path.{sym}
-use Prim.Native.Nat.{_+_, _*_, _-_, _<_}
 use native.Mathlib.Omega.{arith}
 use borrow.Author.Needs.{needs}
 use Rattle.writing.proofs.Reading.{Reading, reading-start, reading-fits, reading-byte, reading-end}

@@ -4,12 +4,11 @@ use mathlib.Core.Path.{_≡_, refl, subst}
 use mathlib.Core.List.{List, [], _++_}
 use native.Mathlib.Omega.{arith}
 use lib.ListN.{length, length-set}
-use mir.Syntax.{w32}
-use Rattle.bits.proofs.Arrays.{array-length}
 use Rattle.writing.specs.Numbers.{bytesOf}
 use Rattle.writing.proofs.Remaining.{Remaining, remaining-start, remaining-store, remaining-call, remaining-placed, remaining-end}
 use Rattle.table.specs.Limits.{mostWires, rowBytes}
 use Rattle.table.specs.TableBytes.{tableBytes}
+use Rattle.table.proofs.Held.{rows-held}
 use Rattle.table.proofs.SavedTables.{table-parts, length-tableBytes}
 use borrow.Author.Needs.{needs}
 use Rattle.table.proofs.saving.store_table.Statement.{statement}
@@ -20,7 +19,7 @@ all-written : (c : tie.After-slice-known4) → let a = c .before .before .before
 all-written c =
     let s = c .before .before .before .before .before .before .before .before .before .before .before .before .before .before in
     let t = s .args .table in
-    let count : length (t .rows) ≡ mostWires = array-length w32 mostWires (t .rows) _ (s .good .0 .1 .1 .1 .0) in
+    let count : length (t .rows) ≡ mostWires = rows-held (t .rows) (s .good .0 .1 .1 .1 .0) in
     let taking = bytesOf rowBytes (t .taking) ++ [] in
     let lending = bytesOf rowBytes (t .lending) ++ taking in
     let start = remaining-start {old = s .args .out .now} {at = s .args .at} {all = tableBytes t} (omega (arith, length-tableBytes t count)) in

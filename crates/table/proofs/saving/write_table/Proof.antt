@@ -2,18 +2,17 @@
 use mathlib.Core.Path.{_≡_}
 use native.Mathlib.Omega.{arith}
 use lib.ListN.{length}
-use mir.Syntax.{w32}
-use Rattle.bits.proofs.Arrays.{array-length}
 use Rattle.writing.proofs.Puts.{no-room, wrote-placed}
-use Rattle.table.specs.Limits.{mostWires, tableLength}
+use Rattle.table.specs.Limits.{tableLength}
 use Rattle.table.specs.TableBytes.{tableBytes}
+use Rattle.table.proofs.Held.{rows-held}
 use Rattle.table.proofs.SavedTables.{length-tableBytes}
 use borrow.Author.Needs.{needs}
 use Rattle.table.proofs.saving.write_table.Statement.{statement}
 use Rattle.table.proofs.saving.write_table.Tie as tie
 
 byte-count : (c : tie.Start) → length (tableBytes (c .args .table)) ≡ tableLength
-byte-count c = length-tableBytes (c .args .table) (array-length w32 mostWires (c .args .table .rows) _ (c .good .0 .1 .1 .1 .0))
+byte-count c = length-tableBytes (c .args .table) (rows-held (c .args .table .rows) (c .good .0 .1 .1 .1 .0))
 
 returns : tie.Need-returns
 returns c = no-room (omega (arith, byte-count (c .before .before)))
