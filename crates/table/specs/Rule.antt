@@ -20,14 +20,17 @@ markAfter marks lender taker u v = not (eqb u lender) && rowAfter (marks lender)
 abbrev pub usedAfter : (ℕ → Bool) → ℕ → ℕ → Bool
 usedAfter marks wire u = eqb u wire || marks u
 
--- the table once the lender lends to the taker: a mark that doesn't count is no in it, and used marks at or above the width are gone
-unfoldable pub accepted : Table → ℕ → ℕ → Table
-accepted t lender taker = record {
+-- the table once the lender lends to the taker, in rows of `most` marks: a mark that doesn't count is no in it, and used marks at or above the width are gone
+unfoldable pub acceptedIn : ℕ → Table → ℕ → ℕ → Table
+acceptedIn most t lender taker = record {
   width = t .width;
-  rows = each mostWires (λ u. pack mostWires (markAfter (counts t) lender taker u));
-  lending = pack mostWires (usedAfter (lends t) lender);
-  taking = pack mostWires (usedAfter (takes t) taker);
+  rows = each most (λ u. pack most (markAfter (counts t) lender taker u));
+  lending = pack most (usedAfter (lends t) lender);
+  taking = pack most (usedAfter (takes t) taker);
 }
+
+abbrev pub accepted : Table → ℕ → ℕ → Table
+accepted = acceptedIn mostWires
 
 -- `after` is `before` once the lender lends to the taker: its marks are what the rule leaves, fewer count, and it is clean
 pub record Updated (before : Table) (lender taker : ℕ) (after : Table) : Type 0 where

@@ -10,7 +10,7 @@ use Rattle.bits.specs.Bits.{pack}
 use Rattle.bits.proofs.Lists.{filled, each-eq}
 use Rattle.table.specs.Limits.{mostWires}
 use Rattle.table.specs.Marks.{counts}
-use Rattle.table.specs.Rule.{markAfter, accepted}
+use Rattle.table.specs.Rule.{markAfter, acceptedIn}
 use Rattle.table.specs.Changes.{changed}
 use Rattle.table.specs.declared.rows.Change.{Change}
 use Rattle.table.proofs.Held.{row-held}
@@ -78,7 +78,7 @@ use-wire-requires-2 : tie.Need-use-wire-requires-2 Inv-loop μ-loop
 use-wire-requires-2 c κs = search needs
 
 returns : tie.Need-returns Inv-loop μ-loop
-unfolding accepted
+unfolding acceptedIn
 returns c = let a = c .before .before .before .before .before .args in
     let h = c .before .before .before .loop in
     let rows = each-eq mostWires (λ u. pack mostWires (markAfter (counts (a .t1)) (a .lender .0) (a .taker .0) u)) (h .rows) (h .inv .1) (λ u l. h .inv .2 u (omega arith)) in
