@@ -5,3 +5,4 @@ pub mod Judgements
 pub mod Updates
 pub mod Offers
 pub mod SavedTables
+pub mod HandMade
