@@ -2,4 +2,3 @@ pub mod Packing
 pub mod Operations
 pub mod Sums
 pub mod Lists
-pub mod Arrays

@@ -26,7 +26,8 @@ use Rattle.circuits.specs.Stepping.{Next, step, end, kindAllowed, stepOf
 use Rattle.circuits.specs.Reading.{Static, headed, headerOf, staticKind, widthRead, judged, checked, checkedAt, ending, before, readFrom, widthened, afterHeader, readCircuit}
 use Rattle.circuits.specs.Validity.{stepsBytes, Valid}
 use Rattle.circuits.specs.declared.states.States.{States}
-use Rattle.circuits.proofs.Turns.{not-refused, checked-step, by-turns}
+use Rattle.basics.proofs.Outcomes.{not-refused}
+use Rattle.circuits.proofs.Turns.{checked-step, by-turns}
 use Rattle.circuits.proofs.FirstBytes.{reachOf, step-short}
 use Rattle.circuits.proofs.Validity.{header-narrow}
 

@@ -20,7 +20,7 @@ use Rattle.circuits.specs.Rewriting.{againOf, rewritten, stepsOf}
 use Rattle.circuits.specs.declared.circuit.Circuit.{Circuit}
 use Rattle.circuits.proofs.Walks.{steps-next, steps-end, bytes-steps}
 use Rattle.circuits.proofs.Validity.{read-valid}
-use Rattle.circuits.proofs.Turns.{not-refused}
+use Rattle.basics.proofs.Outcomes.{not-refused}
 
 module _ (s old : List ℕ) (from : ℕ) (all : List ℕ) where
   -- the instructions that stand from here on are what is still to be written

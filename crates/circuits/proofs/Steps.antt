@@ -18,7 +18,8 @@ use Rattle.records.specs.declared.instructions.Record.the-variants.{StaticWidth
 use Rattle.records.specs.declared.kinds.Form.{Form}
 use Rattle.records.specs.declared.kinds.Form.the-variants as form
 use Rattle.circuits.specs.Stepping.{Next, step, end, kindAllowed, shapeAllowed, stepOf, instructionAt, stepAt}
-use Rattle.circuits.proofs.Turns.{not-refused, not-over}
+use Rattle.basics.proofs.Outcomes.{not-refused}
+use Rattle.circuits.proofs.Turns.{not-over}
 
 module _ (s : List ℕ) (at : ℕ) where
   -- a step was a record

@@ -9,6 +9,7 @@ use lib.Dec.{leb, eqb}
 use borrow.Author.Tests.{eq-eqb, ne-eqb}
 use Rattle.basics.specs.Choice.{pick}
 use Rattle.basics.specs.Outcome.{Outcome, done, refused}
+use Rattle.basics.proofs.Outcomes.{not-refused}
 use Rattle.records.specs.declared.instructions.Instruction.{Instruction}
 use Rattle.circuits.specs.Limits.{mostInstructions, headerLength}
 use Rattle.circuits.specs.Judging.{Verdict, passed, fault, judgeOf, advanceOf, freshStates, finished, fresh, firstUnfinished}
@@ -16,10 +17,7 @@ use Rattle.circuits.specs.Stepping.{Next, step, end, stepAt, instruction
 use Rattle.circuits.specs.Reading.{headerOf, judged, checked, checkedAt, ending, before, readFrom, counted, widthened, summary, circuitOf, readCircuit}
 use Rattle.circuits.specs.declared.states.States.{States}
 
--- an outcome is not both
-pub not-refused : {A : Type 0} {a : A} {n p : ℕ} → refused n p ≡ done a → ⊥
-not-refused {A} {a} {n} {p} e = let z : _≡_ {A = ℕ} 0 1 = cc in omega arith
-
+-- a step is not the end
 pub not-over : {i : Instruction} {next : ℕ} → _≡_ {A = Outcome Next} (done end) (done (step i next)) → ⊥
 not-over {i} {next} e = let z : _≡_ {A = ℕ} 0 1 = cc in omega arith
 

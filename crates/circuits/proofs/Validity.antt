@@ -23,7 +23,8 @@ use Rattle.circuits.specs.Stepping.{Next, step, end, stepAt, Steps, ende
 use Rattle.circuits.specs.Reading.{Static, headerOf, headed, widthRead, staticKind, judged, checked, checkedAt, ending, before, readFrom, widthened, afterHeader, readCircuit}
 use Rattle.circuits.specs.Validity.{stepsBytes, Passes, none, also, Valid}
 use Rattle.circuits.specs.declared.states.States.{States}
-use Rattle.circuits.proofs.Turns.{not-refused, not-over, checked-step, step-checked, reads-end, reads-step, by-turns}
+use Rattle.basics.proofs.Outcomes.{not-refused}
+use Rattle.circuits.proofs.Turns.{not-over, checked-step, step-checked, reads-end, reads-step, by-turns}
 use Rattle.circuits.proofs.Steps.{step-end, end-step}
 use Rattle.circuits.proofs.Walks.{steps-bytes, bytes-steps}
 

@@ -9,7 +9,7 @@ use mir.Val.{Val}
 use denote.Shadow.{shadow}
 use denote.Plain.{UInt}
 use denote.Array.{inArray}
-use Rattle.bits.proofs.Arrays.{array-length, array-fit}
+use Rattle.basics.proofs.Arrays.{array-length, array-fit}
 use Rattle.table.specs.Limits.{mostWires}
 
 module _ (rows : List ℕ) {values : List Val} (held : shadow (inArray ℕ (UInt w32 .own) mostWires (map (λ v. v) rows) values)) where

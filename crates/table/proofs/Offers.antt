@@ -7,7 +7,7 @@ use lib.Dec.{eqb, ltb}
 use lib.ListN.{getD}
 use Rattle.basics.specs.Outcome.{done, refused, handing}
 use Rattle.basics.proofs.Tests.{both}
-use Rattle.basics.proofs.Outcomes.{refused-not-done, handing-value, handing-done}
+use Rattle.basics.proofs.Outcomes.{not-refused, handing-value, handing-done}
 use Rattle.bits.specs.Bits.{bit}
 use Rattle.table.specs.Limits.{mostWires}
 use Rattle.table.specs.Marks.{counts}
@@ -63,7 +63,7 @@ module _ (t : Table) (lender taker : ℕ) where
       where
         go : (b : Bool) → wrongWidth t ≡ b → wrongWidth t ≡ false
         go false e = e
-        go true e = absurd (refused-not-done 27 0 tt (sym (wrong-table t lender taker e) ∙ taken))
+        go true e = absurd (not-refused (sym (wrong-table t lender taker e) ∙ taken))
 
     taken-counts : counts t lender taker ≡ true
     taken-counts = go (counts t lender taker) refl
@@ -73,10 +73,10 @@ module _ (t : Table) (lender taker : ℕ) where
         go false e = absurd (no-mark (outsideWidth t lender taker) refl (bit lender (t .lending)) refl (bit taker (t .taking)) refl)
           where
             no-mark : (a : Bool) → outsideWidth t lender taker ≡ a → (b : Bool) → bit lender (t .lending) ≡ b → (c : Bool) → bit taker (t .taking) ≡ c → ⊥
-            no-mark true ea b eb c ec = refused-not-done 20 0 tt (sym (not-below t lender taker right-width ea) ∙ taken)
-            no-mark false ea true eb c ec = refused-not-done 21 0 tt (sym (already-lends t lender taker right-width ea eb) ∙ taken)
-            no-mark false ea false eb true ec = refused-not-done 22 0 tt (sym (already-takes t lender taker right-width ea eb ec) ∙ taken)
-            no-mark false ea false eb false ec = refused-not-done 23 0 tt (sym (closes-loop t lender taker right-width ea eb ec e) ∙ taken)
+            no-mark true ea b eb c ec = not-refused (sym (not-below t lender taker right-width ea) ∙ taken)
+            no-mark false ea true eb c ec = not-refused (sym (already-lends t lender taker right-width ea eb) ∙ taken)
+            no-mark false ea false eb true ec = not-refused (sym (already-takes t lender taker right-width ea eb ec) ∙ taken)
+            no-mark false ea false eb false ec = not-refused (sym (closes-loop t lender taker right-width ea eb ec e) ∙ taken)
 
   -- what `may` says, by the width
   may-refused : wrongWidth t ≡ true → mayLend t lender taker ≡ refused 27 0
@@ -92,7 +92,7 @@ module _ (t : Table) (lender taker : ℕ) where
   yes-taken says = go (wrongWidth t) refl
     where
       go : (b : Bool) → wrongWidth t ≡ b → offered t lender taker ≡ done (accepted t lender taker)
-      go true e = absurd (refused-not-done 27 0 true (sym (may-refused e) ∙ says))
+      go true e = absurd (not-refused (sym (may-refused e) ∙ says))
       go false e =
           let same : done (counts t lender taker) ≡ done true = sym (may-says e) ∙ says in
           let mark : counts t lender taker ≡ true = cc in

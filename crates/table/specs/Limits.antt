@@ -1,9 +1,10 @@
--- The limits of a table. No other file has these numbers.
+-- The limits of a table: the most wires are a circuit's, and the number of bytes follows from it.
 use Prim.Native.Nat.{ℕ, _+_, _*_}
+use Rattle.circuits.specs.Limits as circuit
 
 -- the most wires of a circuit: the rows of a table, and the marks of a row
 abbrev pub mostWires : ℕ
-mostWires = 32
+mostWires = circuit.mostWires
 
 -- the bytes of a row, or of a set of used wires
 abbrev pub rowBytes : ℕ

@@ -1,4 +1,5 @@
 // The table by value, and its limits.
+use circuits::Circuit;
 ghost use mathlib.Core.Path.{_≡_};
 ghost use Rattle.table.specs.Marks.{emptyTable};
 
@@ -16,9 +17,9 @@ pub struct Table {
 
 impl Table {
     // The most wires.
-    pub const MOST: u8 = 32;
+    pub const MOST: u8 = Circuit::MOST_WIRES as u8;
 
-    pub const ROWS: usize = Table::MOST as usize;
+    pub const ROWS: usize = Circuit::MOST_WIRES;
 
     // The bytes of a row, and of the whole table: the width, the rows, the used lenders and the used takers.
     pub const ROW_BYTES: usize = 4;

@@ -1,8 +1,6 @@
 -- Laws of `put`: one after the other, a single store, and the whole from the start. Assumes nothing.
 use mathlib.Core.Bool.{Bool, true, false}
 use mathlib.Core.Path.{_≡_, refl, sym, ap, subst, _∙_}
-use mathlib.Core.List.{List, [], _∷_, _++_, append-assoc}
-use mathlib.Core.Path.{_≡_, refl, sym, ap, _∙_}
 use mathlib.Core.List.{List, [], _∷_, _++_, append-assoc, append-nil}
 use Prim.Native.Nat.{ℕ, _+_, _≤_, _<_}
 use native.Mathlib.Omega.{arith}
@@ -72,6 +70,7 @@ wrote-on {old} {at} {xs} {mid} {seam} {ys} {new} {to} l v w = record {
   holds = w .holds ∙ rw (v .holds, v .end) (put-put old at xs ys l);
   end = omega (arith, v .end, w .end, length-append xs ys);
 }
+
 -- a buffer that is written whole
 pub put-whole : (old xs : List ℕ) → length old ≡ length xs → put old 0 xs ≡ xs
 put-whole old xs e = put-start old xs ∙ ap (λ (z : List ℕ). xs ++ z) (drop-of-length-le old {i = length xs} (omega arith)) ∙ append-nil xs
