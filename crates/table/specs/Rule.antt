@@ -29,6 +29,7 @@ acceptedIn most t lender taker = record {
   taking = pack most (usedAfter (takes t) taker);
 }
 
+-- the same in the rows of a table
 abbrev pub accepted : Table → ℕ → ℕ → Table
 accepted = acceptedIn mostWires
 

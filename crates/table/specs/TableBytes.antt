@@ -12,6 +12,7 @@ use Rattle.table.specs.declared.tables.Table.{Table}
 abbrev pub setsOf : Table → List ℕ
 setsOf t = t .rows ++ (t .lending ∷ t .taking ∷ [])
 
+-- the width, then the bytes of those
 unfoldable pub tableBytes : Table → List ℕ
 tableBytes t = t .width ∷ bytesOfAll rowBytes (setsOf t)
 

@@ -128,6 +128,8 @@ pub fn accept(table: Table, lender: Wire, taker: Wire) -> Table
     ensures { λ r. ⌜ r ≡ accepted table (lender .0) (taker .0) ⌝ }
 {
     let change = change_of(table, lender, taker);
+    let lending = use_wire(table.width, table.lending, lender);
+    let taking = use_wire(table.width, table.taking, taker);
     let mut rows = [0; Table::ROWS];
     let mut u: u8 = 0;
     while u < Table::MOST {
@@ -137,8 +139,8 @@ pub fn accept(table: Table, lender: Wire, taker: Wire) -> Table
     Table {
         width: table.width,
         rows,
-        lending: use_wire(table.width, table.lending, lender),
-        taking: use_wire(table.width, table.taking, taker),
+        lending,
+        taking,
     }
 }
 

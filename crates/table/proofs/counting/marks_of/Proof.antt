@@ -44,7 +44,8 @@ counting-requires : tie.Need-counting-requires Inv-loop μ-loop
 counting-requires c κs = search needs
 
 add-n : tie.Need-add-n Inv-loop μ-loop
-add-n c = let h = c .before .before .before .loop in
+add-n c =
+    let h = c .before .before .before .loop in
     omega (arith, tallies-le mostWires (counts (c .before .before .before .before .before .before .args .t1)) _ _ (h .inv .1), ones-le mostWires (c .counting .result) (search needs))
 
 add-u : tie.Need-add-u Inv-loop μ-loop
@@ -54,7 +55,8 @@ loop-less : tie.Need-loop-less Inv-loop μ-loop
 loop-less c = search needs
 
 loop-again : tie.Need-loop-again Inv-loop μ-loop
-loop-again c = let a = c .before .before .before .before .before .before in
+loop-again c =
+    let a = c .before .before .before .before .before .before in
     let h = c .before .before .before .loop in
     let fits : getD (a .args .t1 .rows) (h .u) 0 < 2 ^ mostWires = row-held (a .args .t1 .rows) (a .good .0 .1 .1 .1 .0) (h .u) in
     let row = c .counting .ensures ∙ row-counts (a .args .t1) (h .u) fits (record { is = c .before .before .before .before .before .unused .ensures }) (record { is = c .before .before .before .before .unused2 .ensures }) (omega arith) in
@@ -62,7 +64,8 @@ loop-again c = let a = c .before .before .before .before .before .before in
 
 returns : tie.Need-returns Inv-loop μ-loop
 unfolding marksOf
-returns c = let e : c .before .loop .u ≡ mostWires = omega arith in rw e at (c .before .loop .inv .1)
+returns c =
+    let e : c .before .loop .u ≡ mostWires = omega arith in rw e at (c .before .loop .inv .1)
 
 pub marks-of-spec : {M : Type 1} → statement M
 marks-of-spec =

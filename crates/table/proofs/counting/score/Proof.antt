@@ -24,13 +24,15 @@ enum-known-reply : tie.Need-enum-known-reply
 enum-known-reply c = search needs
 
 returns : tie.Need-returns
-returns c = let a = c .before .before .before .before .before .args in
+returns c =
+    let a = c .before .before .before .before .before .args in
     ap done (c .marks-of .ensures ∙ ap marksOf (c .before .accept .ensures))
     ∙ ap (handing (marksOf (accepted (a .table) (a .lender .0) (a .taker .0))))
     (sym (ap replied (c .before .before .enum-told .given .1)) ∙ c .before .before .before .before .judge .ensures)
 
 returns-2 : tie.Need-returns-2
-returns-2 c = let a = c .before .before .before .before .args in
+returns-2 c =
+    let a = c .before .before .before .before .args in
     ap (handing (marksOf (accepted (a .table) (a .lender .0) (a .taker .0))))
     (sym (ap replied (c .before .reply .given .1)) ∙ c .before .before .before .judge .ensures)
 

@@ -19,7 +19,8 @@ marks-requires c κs = search needs
 
 returns : tie.Need-returns
 unfolding changeOf
-returns c = let lenders = less-is (c .before .before .before .before .args .lender .0) (record { is = c .before .before .before .unused .ensures }) (c .before .before .without .ensures) in
+returns c =
+    let lenders = less-is (c .before .before .before .before .args .lender .0) (record { is = c .before .before .before .unused .ensures }) (c .before .before .without .ensures) in
     λ i. record { lenders = lenders i; takers = c .before .unused2 .ensures i; given = c .marks .ensures i; taker = c .before .before .before .before .args .taker }
 
 pub change-of-spec : {M : Type 1} → statement M

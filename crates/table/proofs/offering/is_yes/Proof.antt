@@ -16,7 +16,8 @@ has-requires : tie.Need-has-requires
 has-requires c κs = search needs
 
 returns : tie.Need-returns
-returns c = let a = c .before .before in
+returns c =
+    let a = c .before .before in
     let fits : getD (a .args .table .rows) (a .args .lender .0) 0 < 2 ^ mostWires = row-held (a .args .table .rows) (a .good .0 .1 .1 .1 .0) (a .args .lender .0) in
     c .has .ensures ∙ yes-is (a .args .table) (a .args .lender .0) fits _ (c .before .marks .ensures) (a .args .taker .0)
 

@@ -46,7 +46,8 @@ refuse-requires-3 : tie.Need-refuse-requires-3
 refuse-requires-3 c κs = search needs
 
 returns-3 : tie.Need-returns-3
-returns-3 c = let e = c .before .before .before in
+returns-3 c =
+    let e = c .before .before .before in
     c .refuse3 .ensures ∙ sym (already-lends _ _ _ (right-width (e .before .before)) (both-below e) (sym (c .before .before .has .ensures) ∙ c .before .if3 .taken))
 
 has-requires-2 : tie.Need-has-requires-2
@@ -56,7 +57,8 @@ refuse-requires-4 : tie.Need-refuse-requires-4
 refuse-requires-4 c κs = search needs
 
 returns-4 : tie.Need-returns-4
-returns-4 c = let e = c .before .before .before in
+returns-4 c =
+    let e = c .before .before .before in
     c .refuse4 .ensures
     ∙ sym (already-takes _ _ _ (right-width (e .before .before .before .before)) (both-below (e .before .before)) (lends-not e) (sym (c .before .before .has2 .ensures) ∙ c .before .if4 .taken))
 
@@ -67,11 +69,13 @@ refuse-requires-5 : tie.Need-refuse-requires-5
 refuse-requires-5 c κs = search needs
 
 returns-5 : tie.Need-returns-5
-returns-5 c = let e = c .before .before in
+returns-5 c =
+    let e = c .before .before in
     sym (is-taken _ _ _ (right-width (e .before .before .before .before .before .before)) (both-below (e .before .before .before .before)) (lends-not (e .before .before)) (takes-not e) (sym (c .before .is-yes .ensures) ∙ c .if5 .taken))
 
 returns-6 : tie.Need-returns-6
-returns-6 c = let e = c .before .before .before in
+returns-6 c =
+    let e = c .before .before .before in
     c .refuse5 .ensures
     ∙ sym (closes-loop _ _ _ (right-width (e .before .before .before .before .before .before)) (both-below (e .before .before .before .before)) (lends-not (e .before .before)) (takes-not e) (sym (c .before .before .is-yes .ensures) ∙ c .before .if5 .left))
 

@@ -29,12 +29,14 @@ counting-requires : tie.Need-counting-requires
 counting-requires c κs = search needs
 
 returns : tie.Need-returns
-returns c = let a = c .before .before .before .before .before .before .before in
+returns c =
+    let a = c .before .before .before .before .before .before .before in
     let fits : getD (a .args .t1 .rows) (a .args .lender .0) 0 < 2 ^ mostWires = row-held (a .args .t1 .rows) (a .good .0 .1 .1 .1 .0) (a .args .lender .0) in
     c .counting .ensures ∙ row-counts (a .args .t1) (a .args .lender .0) fits (record { is = c .before .before .before .before .unused .ensures }) (record { is = c .before .before .before .unused2 .ensures }) (search needs)
 
 returns-2 : tie.Need-returns-2
-returns-2 c = let a = c .before .before in
+returns-2 c =
+    let a = c .before .before in
     let n : length (a .args .t1 .rows) ≡ mostWires = rows-held (a .args .t1 .rows) (a .good .0 .1 .1 .1 .0) in
     no-row (a .args .t1) (a .args .lender .0) (omega arith)
 

@@ -20,7 +20,8 @@ enum-known-reply : tie.Need-enum-known-reply
 enum-known-reply c = search needs
 
 returns : tie.Need-returns
-returns c = let a = c .before .before .before .before .args in
+returns c =
+    let a = c .before .before .before .before .args in
     let after = accepted (a .table) (a .lender .0) (a .taker .0) in
     let reply = sym (ap replied (c .before .enum-told .given .1)) ∙ c .before .before .before .judge .ensures in (
       ap done (c .accept .ensures) ∙ ap (handing after) reply,
@@ -28,7 +29,8 @@ returns c = let a = c .before .before .before .before .args in
     )
 
 returns-2 : tie.Need-returns-2
-returns-2 c = let a = c .before .before .before .before .args in
+returns-2 c =
+    let a = c .before .before .before .before .args in
     let after = accepted (a .table) (a .lender .0) (a .taker .0) in
     let reply = sym (ap replied (c .before .reply .given .1)) ∙ c .before .before .before .judge .ensures in (
       ap (handing after) reply,

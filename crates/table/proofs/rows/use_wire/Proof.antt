@@ -19,11 +19,13 @@ below-requires-2 : tie.Need-below-requires-2
 below-requires-2 c κs = search needs
 
 returns : tie.Need-returns
-returns c = let a = c .before .before .before .before .args in
+returns c =
+    let a = c .before .before .before .before .args in
     or-is (shl-is mostWires (a .wire .0) (search needs)) (and-is (record { is = c .below .ensures }) (own mostWires {n = a .row} (search needs))) .is
 
 returns-2 : tie.Need-returns-2
-returns-2 c = let a = c .before .before .before .args in
+returns-2 c =
+    let a = c .before .before .before .args in
     none-more (a .wire .0) (search needs) (and-is (record { is = c .below2 .ensures }) (own mostWires {n = a .row} (search needs))) .is
 
 pub use-wire-spec : {M : Type 1} → statement M

@@ -13,11 +13,13 @@ shl-result : tie.Need-shl-result
 shl-result c = search needs
 
 returns : tie.Need-returns
-returns c = let a = c .before .before .before .args in
+returns c =
+    let a = c .before .before .before .args in
     and-is (not-is (shl-is mostWires (a .wire .0) (search needs))) (own mostWires {n = a .row} (search needs)) .is
 
 returns-2 : tie.Need-returns-2
-returns-2 c = let a = c .before .before .args in
+returns-2 c =
+    let a = c .before .before .args in
     none-less (a .wire .0) (search needs) (own mostWires {n = a .row} (search needs)) .is
 
 pub without-spec : {M : Type 1} → statement M

@@ -39,7 +39,8 @@ loop-again : tie.Need-loop-again Inv-loop μ-loop
 loop-again c = (search needs, remaining-store (rw (bytes-next rowBytes (c .before .loop .i) (c .before .loop .rest) (c .loop-test .taken)) at (c .before .loop .inv .1)))
 
 returns : tie.Need-returns Inv-loop μ-loop
-returns c = let h = c .before .loop in
+returns c =
+    let h = c .before .loop in
     remaining-end (bytes-none rowBytes (h .i) (h .rest) (c .loop-test .left)) (h .inv .1) .holds
     ∙ put-whole (replicate rowBytes 0) (bytesOf rowBytes (c .before .before .args .row)) (sym (length-bytesOf rowBytes (c .before .before .args .row)))
 

@@ -23,7 +23,8 @@ row-count : (c : tie.Start Inv-loop μ-loop) → length (c .args .t1) ≡ mostWi
 row-count c = c .good .0 .1 .0 .1
 
 loop-holds : tie.Need-loop-holds Inv-loop μ-loop
-loop-holds c = let rows = c .before .args .t1 in
+loop-holds c =
+    let rows = c .before .args .t1 in
     (search needs, remaining-start (omega (arith, length-bytesOfAll rowBytes rows, row-count (c .before))))
 
 mul-put-row : tie.Need-mul-put-row Inv-loop μ-loop
@@ -42,7 +43,8 @@ loop-less : tie.Need-loop-less Inv-loop μ-loop
 loop-less c = search needs
 
 loop-again : tie.Need-loop-again Inv-loop μ-loop
-loop-again c = let a = c .before .before .before .before .before .before .before in
+loop-again c =
+    let a = c .before .before .before .before .before .before .before in
     let h = c .before .before .before .before .before .loop in (
       search needs,
       remaining-placed (bytesOfAll rowBytes (drop (h .u + 1) (a .args .t1))) (c .before .before .put-row .ensures)
@@ -53,7 +55,8 @@ same-length : tie.Need-same-length Inv-loop μ-loop
 same-length c = c .before .loop .inv .1 .same
 
 returns : tie.Need-returns Inv-loop μ-loop
-returns c = let a = c .before .before .before in
+returns c =
+    let a = c .before .before .before in
     let h = c .before .loop in
     remaining-end (all-none rowBytes (h .u) (a .args .t1) (omega (arith, row-count a))) (h .inv .1)
 

@@ -37,11 +37,12 @@ loop-less : tie.Need-loop-less Inv-loop μ-loop
 loop-less c = search needs
 
 loop-again : tie.Need-loop-again Inv-loop μ-loop
-loop-again c = let h = c .before .before .loop in (
-  search needs,
-  simp length-set (h .inv .1),
-  filled (setAt (c .before .before .before .before .args .bytes .now)) (h .rows) (h .u) (c .set-at .result) (search needs) (h .inv .2) (c .set-at .ensures),
-)
+loop-again c =
+    let h = c .before .before .loop in (
+      search needs,
+      simp length-set (h .inv .1),
+      filled (setAt (c .before .before .before .before .args .bytes .now)) (h .rows) (h .u) (c .set-at .result) (search needs) (h .inv .2) (c .set-at .ensures),
+    )
 
 byte-at-requires : tie.Need-byte-at-requires Inv-loop μ-loop
 byte-at-requires c κs = search needs
@@ -57,7 +58,8 @@ set-at-requires-3 c κs = search needs
 
 returns : tie.Need-returns Inv-loop μ-loop
 unfolding tableOf
-returns c = let h = c .before .before .before .before .loop in
+returns c =
+    let h = c .before .before .before .before .loop in
     let s = c .before .before .before .before .before .before .args .bytes .now in
     let rows = each-eq mostWires (setAt s) (h .rows) (h .inv .1) (λ u l. h .inv .2 u (omega arith)) in
     λ i. record { width = c .before .before .byte-at .ensures i; rows = rows i; lending = c .before .set-at2 .ensures i; taking = c .set-at3 .ensures i }
