@@ -1,6 +1,7 @@
 // Static circuits: the reader, which answers any byte string, and the records of a valid circuit written again.
 pub mod circuit;
 pub mod judging;
+pub mod lines;
 pub mod reading;
 pub mod rewriting;
 pub mod states;
@@ -12,6 +13,7 @@ pub use judging::Verdict;
 pub use judging::advance;
 pub use judging::judge;
 pub use judging::place_of;
+pub use lines::wire_of;
 pub use reading::Reading;
 pub use reading::read;
 pub use rewriting::Rewriting;

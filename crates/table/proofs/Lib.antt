@@ -6,3 +6,4 @@ pub mod Updates
 pub mod Offers
 pub mod SavedTables
 pub mod HandMade
+pub mod StartRows

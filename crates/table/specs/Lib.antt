@@ -4,3 +4,4 @@ pub mod Rule
 pub mod Changes
 pub mod Calls
 pub mod TableBytes
+pub mod Starting

@@ -55,3 +55,15 @@ impl Counted {
         }
     }
 }
+
+// Whether a circuit was read.
+pub enum Start {
+    Done,
+    Refused(Refusal),
+}
+
+// The answer, and the circuit's table; beside a refusal the table of no wires.
+pub struct Started {
+    pub answer: Start,
+    pub table: Table,
+}
