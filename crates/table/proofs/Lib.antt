@@ -7,3 +7,4 @@ pub mod Offers
 pub mod SavedTables
 pub mod HandMade
 pub mod StartRows
+pub mod DemandThree

@@ -5,3 +5,4 @@ pub mod Changes
 pub mod Calls
 pub mod TableBytes
 pub mod Starting
+pub mod Growing
