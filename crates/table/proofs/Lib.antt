@@ -8,3 +8,4 @@ pub mod SavedTables
 pub mod HandMade
 pub mod StartRows
 pub mod DemandThree
+pub mod WorkedTable
