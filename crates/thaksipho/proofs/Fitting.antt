@@ -1,16 +1,17 @@
 -- Values and places fit a word: they are below 2 ^ 32, and a refusal's number is not 0, so a word has one meaning. Assumes nothing.
-use Prim.Native.Nat.{ℕ, zero, suc, _+_, _*_, _≤_, _<_}
+use Prim.Native.Nat.{ℕ, zero, suc, _+_, _*_, _%_, _≤_, _<_}
 use mathlib.Core.Bool.{Bool, true, false}
 use mathlib.Core.Path.{_≡_, refl, sym, ap, subst, _∙_}
 use mathlib.Core.List.{List}
 use native.Mathlib.Omega.{arith}
-use native.Mathlib.Nat.{suc-mul}
+use native.Mathlib.Nat.{suc-mul, mod-eq-of-lt}
 use lib.ListN.{length}
 use lib.Dec.{ltb}
 use borrow.Author.Tests.{ltb-true, ltb-false}
 use Rattle.basics.specs.Choice.{pick}
 use Rattle.basics.specs.Outcome.{Outcome, done, refused}
 use Rattle.writing.specs.Writing.{fitted, sized, Settled}
+use Rattle.writing.proofs.Puts.{settled-refused}
 use Rattle.circuits.specs.Limits.{mostWires, mostInstructions, decidingBytes}
 use Rattle.circuits.specs.Reading.{Static, summary, circuitOf, readCircuit}
 use Rattle.circuits.specs.Validity.{circuitBytes}
@@ -19,6 +20,7 @@ use Rattle.circuits.specs.declared.circuit.Circuit.{Circuit}
 use Rattle.circuits.proofs.Validity.{read-valid}
 use Rattle.circuits.proofs.Refusals.{refused-circuit, valid-short}
 use Rattle.thaksipho.specs.Words.{placesEnd, word, circuitValue, Worded}
+use Rattle.thaksipho.specs.Tables.{Small}
 
 -- an outcome that fits a word
 abbrev pub Fits : Outcome ℕ → Type 0
@@ -68,3 +70,19 @@ told-fits e f = subst Fits (sym e) f
 -- the word of what a writing call told
 pub worded : {old : List ℕ} {o : Outcome (List ℕ)} {told : Outcome ℕ} {new : List ℕ} {w : ℕ} → Settled old o told new → w ≡ word told → Worded old o w new
 worded s e = record { tells = e ∙ ap word (s .tells); leaves = s .leaves }
+
+-- A refusal as a word: its place is below 2 ^ 32, so the remainder is the place
+
+pub kept : (number place : ℕ) → place < placesEnd → word (refused number (place % placesEnd)) ≡ word (refused number place)
+kept number place h = ap (λ (p : ℕ). number * placesEnd + p) (mod-eq-of-lt h)
+
+pub refusal-tells : {w number place : ℕ} {o : Outcome ℕ} → w ≡ word (refused number (place % placesEnd)) → refused number place ≡ o → Fits o → w ≡ word o
+refusal-tells {number = number} {place = place} e z f = e ∙ kept number place (told-fits z f .1) ∙ ap word z
+
+pub refusal-worded : {old : List ℕ} {o : Outcome (List ℕ)} {w number place : ℕ} → w ≡ word (refused number (place % placesEnd)) → o ≡ refused number place
+    → place < placesEnd → Worded old o w old
+refusal-worded {number = number} {place = place} e z h = worded (settled-refused z) (e ∙ kept number place h)
+
+pub fits-small : (o : Outcome ℕ) → Fits o → Small o
+fits-small (done v) f = tt
+fits-small (refused n p) f = f .1

@@ -1,5 +1,6 @@
 -- A call's outcome as the one word that it returns.
 use Prim.Native.Nat.{ℕ, _+_, _*_}
+use mathlib.Core.Bool.{Bool, true, false}
 use mathlib.Core.Path.{_≡_}
 use mathlib.Core.List.{List}
 use Rattle.basics.specs.Outcome.{Outcome, done, refused}
@@ -19,6 +20,12 @@ word (refused number place) = number * placesEnd + place
 abbrev pub circuitValue : Outcome Circuit → Outcome ℕ
 circuitValue (done c) = done (c .instructions * 256 + c .width)
 circuitValue (refused number place) = refused number place
+
+-- 1 yes, 0 no
+abbrev pub flag : Outcome Bool → Outcome ℕ
+flag (done true) = done 1
+flag (done false) = done 0
+flag (refused number place) = refused number place
 
 -- a call that writes returns how many bytes, or its refusal, as a word, and leaves the buffer so
 pub record Worded (old : List ℕ) (o : Outcome (List ℕ)) (w : ℕ) (new : List ℕ) : Type 0 where

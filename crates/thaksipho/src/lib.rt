@@ -1,25 +1,18 @@
 // The library that C and Rust link: numbers and byte slices only. Each call returns one word: the refusal's number times 2^32
 // plus its place, or, when done, a value below 2^32.
+mod tables;
+mod words;
+
+use crate::words::refusal_word;
 use circuits::Reading;
 use circuits::Rewriting;
 use circuits::read;
 use circuits::rewrite;
-use records::Refusal;
 ghost use mathlib.Core.Path.{_≡_};
-ghost use Prim.Native.Nat.{_<_};
 ghost use lib.ListN.{length};
-ghost use Rattle.basics.specs.Outcome.{refused};
 ghost use Rattle.circuits.specs.Reading.{summary, readCircuit};
 ghost use Rattle.circuits.specs.Rewriting.{rewritten};
-ghost use Rattle.thaksipho.specs.Words.{placesEnd, word, circuitValue, Worded};
-
-// A refusal as a word.
-fn refusal_word(r: Refusal) -> u64
-    requires { ⌜ r .place < placesEnd ⌝ }
-    ensures { λ w. ⌜ w ≡ word (refused (r .number) (r .place)) ⌝ }
-{
-    r.number as u64 * 4294967296 + r.place as u64
-}
+ghost use Rattle.thaksipho.specs.Words.{word, circuitValue, Worded};
 
 // Reads a static circuit. The value: instructions * 256 + wires.
 #[no_mangle]

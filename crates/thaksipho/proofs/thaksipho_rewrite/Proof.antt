@@ -2,7 +2,7 @@
 use mathlib.Core.Path.{sym, ap, _∙_}
 use Rattle.circuits.specs.Rewriting.{rewritingOf}
 use Rattle.thaksipho.specs.Words.{word}
-use Rattle.thaksipho.proofs.Fitting.{told-fits, worded, rewrite-fits}
+use Rattle.thaksipho.proofs.Fitting.{told-fits, worded, rewrite-fits, kept}
 use borrow.Author.Needs.{needs}
 use Rattle.thaksipho.proofs.thaksipho_rewrite.Statement.{statement}
 use Rattle.thaksipho.proofs.thaksipho_rewrite.Tie as tie
@@ -17,7 +17,7 @@ enum-known-r : tie.Need-enum-known-r
 enum-known-r c = search needs
 
 refusal-word-requires : tie.Need-refusal-word-requires
-refusal-word-requires c κs = told-fits (sym (ap rewritingOf (c .before .r .given .1)) ∙ c .before .before .before .before .before .rewrite .ensures .tells) (rewrite-fits _ _) .1
+refusal-word-requires c κs = search needs
 
 same-length : tie.Need-same-length
 same-length c = search needs
@@ -29,7 +29,10 @@ same-length-2 : tie.Need-same-length-2
 same-length-2 c = search needs
 
 returns-2 : tie.Need-returns-2
-returns-2 c = worded (c .before .before .before .before .before .before .rewrite .ensures) (c .refusal-word .ensures ∙ sym (ap (λ r. word (rewritingOf r)) (c .before .before .r .given .1)))
+returns-2 c =
+    let e = sym (ap rewritingOf (c .before .before .r .given .1)) ∙ c .before .before .before .before .before .before .rewrite .ensures .tells in
+    worded (c .before .before .before .before .before .before .rewrite .ensures)
+    (c .refusal-word .ensures ∙ kept _ _ (told-fits e (rewrite-fits _ _) .1) ∙ sym (ap (λ r. word (rewritingOf r)) (c .before .before .r .given .1)))
 
 pub thaksipho-rewrite-spec : {M : Type 1} → statement M
 thaksipho-rewrite-spec =
