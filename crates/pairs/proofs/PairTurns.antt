@@ -1,0 +1,137 @@
+-- The reading of a pair list, one pair at a time. Assumes nothing.
+use Prim.Native.Nat.{ℕ, zero, suc, _+_, _-_, _≤_, _<_}
+use mathlib.Core.Bool.{Bool, true, false}
+use mathlib.Core.Path.{_≡_, refl, sym, ap, _∙_}
+use mathlib.Core.List.{List, [], _∷_}
+use native.Mathlib.Omega.{arith}
+use lib.ListN.{length, getD}
+use lib.Dec.{leb}
+use Rattle.basics.specs.Choice.{pick}
+use Rattle.basics.specs.Outcome.{Outcome, done, refused}
+use Rattle.basics.proofs.Outcomes.{not-refused}
+use Rattle.orders.specs.Runs.{Pair}
+use Rattle.records.specs.Records.{Standing, stands, over, recordAt}
+use Rattle.records.specs.declared.instructions.Record.{Record}
+use Rattle.records.specs.declared.instructions.Record.the-variants.{StaticWidth, DynamicWidth, Step, Reuse}
+use Rattle.records.proofs.RoundTrip.{round-trip}
+use Rattle.table.specs.Calls.{offered}
+use Rattle.table.specs.Growing.{Growing}
+use Rattle.table.specs.declared.tables.Table.{Table}
+use Rattle.pairs.specs.Lending.{nobodyLends, lent, lendersIn}
+use Rattle.pairs.specs.Listing.{Next, pair, end, pairKind, pairOf, pairAt, pairsFrom, readPairs, pairsTold, refusedWith}
+use Rattle.pairs.specs.declared.lending.Lenders.{Lenders}
+use Rattle.pairs.specs.declared.listing.Pairs.the-variants as answer
+
+not-end : {p : Pair} {next : ℕ} → _≡_ {A = Outcome Next} (done end) (done (pair p next)) → ⊥
+not-end {p} {next} e = let z : _≡_ {A = ℕ} 0 1 = cc in omega arith
+
+-- a pair that was found stands inside the list
+pub pair-place : (s : List ℕ) (at index : ℕ) {p : Pair} {next : ℕ} → pairAt s at index ≡ done (pair p next) → (at < next) × (next ≤ length s)
+unfolding pairAt
+pair-place s at index e = go (leb (length s) at) (pairKind (getD s at 0)) e
+  where
+    answer : (o : Outcome Standing) → recordAt s at ≡ o → {p : Pair} {next : ℕ} → pairOf index o ≡ done (pair p next) → (at < next) × (next ≤ length s)
+    answer (done (stands (Reuse l t) n)) z {p} {next} e =
+        let b = round-trip s at z in
+        let y : n ≡ next = cc in
+        (omega (arith, b .past), omega (arith, b .within))
+    answer (done (stands (StaticWidth w) n)) z e = absurd (not-refused e)
+    answer (done (stands (DynamicWidth q b) n)) z e = absurd (not-refused e)
+    answer (done (stands (Step i) n)) z e = absurd (not-refused e)
+    answer (done over) z e = absurd (not-end e)
+    answer (refused n q) z e = absurd (not-refused e)
+
+    go : (a b : Bool) {p : Pair} {next : ℕ} → pick a (done end) (pick b (pairOf index (recordAt s at)) (refused 24 index)) ≡ done (pair p next) → (at < next) × (next ≤ length s)
+    go true b e = absurd (not-end e)
+    go false true e = answer (recordAt s at) refl e
+    go false false e = absurd (not-refused e)
+
+-- the reading with some pairs still to come
+module _ (s : List ℕ) (at index more : ℕ) (g : Growing) (some : 0 < more) where
+  one-more : suc (more - 1) ≡ more
+  one-more = omega arith
+
+  pub pairs-end : pairAt s at index ≡ done end → pairsFrom more s at index g ≡ done g
+  unfolding pairsFrom
+  pairs-end e = ap (λ (n : ℕ). pairsFrom n s at index g) (sym one-more) ∙ rw e
+
+  pub pairs-refused : {n p : ℕ} → pairAt s at index ≡ refused n p → pairsFrom more s at index g ≡ refused n p
+  unfolding pairsFrom
+  pairs-refused e = ap (λ (n : ℕ). pairsFrom n s at index g) (sym one-more) ∙ rw e
+
+  module _ {p : Pair} {next : ℕ} (e : pairAt s at index ≡ done (pair p next)) where
+    pub offer-refused : {n q : ℕ} → offered (g .table) (p .0) (p .1) ≡ refused n q → pairsFrom more s at index g ≡ refused n index
+    unfolding pairsFrom
+    offer-refused f = ap (λ (n : ℕ). pairsFrom n s at index g) (sym one-more) ∙ rw (e, f)
+
+    pub pairs-on : {t : Table} → offered (g .table) (p .0) (p .1) ≡ done t
+        → pairsFrom more s at index g ≡ pairsFrom (more - 1) s next (index + 1) (record { table = t; pairs = p ∷ g .pairs })
+    unfolding pairsFrom
+    pairs-on f = ap (λ (n : ℕ). pairsFrom n s at index g) (sym one-more) ∙ rw (e, f)
+
+-- The loop
+
+-- the pairs taken so far, and that reading on from here ends where the whole reading does
+pub record Going (t : Table) (s : List ℕ) (now : Table) (lenders : Lenders) (at index : ℕ) : Type 0 where
+  pub pairs : List Pair
+  pub counted : length pairs ≡ index
+  pub lends : lenders .lenders ≡ lendersIn pairs
+  pub onward : index ≤ at
+  pub inside : at ≤ length s
+  pub reads : pairsFrom (suc (length s) - index) s at index (record { table = now; pairs = pairs }) ≡ readPairs t s
+
+module _ (t : Table) (s : List ℕ) where
+  pub going-start : (lenders : Lenders) → lenders .lenders ≡ nobodyLends → Going t s t lenders 0 0
+  unfolding lendersIn
+  going-start lenders e = record {
+    pairs = [];
+    counted = refl;
+    lends = e;
+    onward = omega arith;
+    inside = omega arith;
+    reads = let z : suc (length s) - 0 ≡ suc (length s) = omega arith in ap (λ (n : ℕ). pairsFrom n s 0 0 (record { table = t; pairs = [] })) z;
+  }
+
+  module _ (now : Table) (lenders : Lenders) (at index : ℕ) (g : Going t s now lenders at index) where
+    growing : Growing
+    growing = record { table = now; pairs = g .pairs }
+
+    some : 0 < suc (length s) - index
+    some = omega (arith, g .onward, g .inside)
+
+    -- at the end of the list
+    pub going-end : pairAt s at index ≡ done end → record { answer = answer.Accepted index; table = now; lenders = lenders } ≡ pairsTold t (readPairs t s)
+    unfolding growing
+    going-end e =
+        let z = sym (pairs-end s at index (suc (length s) - index) growing some e) ∙ g .reads in
+        (λ i. record { answer = answer.Accepted (sym (g .counted) i); table = now; lenders = record { lenders = g .lends i } }) ∙ ap (pairsTold t) z
+
+    -- at a refusal
+    pub going-refused : {n p : ℕ} → pairAt s at index ≡ refused n p → refusedWith n p t ≡ pairsTold t (readPairs t s)
+    unfolding growing
+    going-refused e = ap (pairsTold t) (sym (pairs-refused s at index (suc (length s) - index) growing some e) ∙ g .reads)
+
+    module _ {p : Pair} {next : ℕ} (e : pairAt s at index ≡ done (pair p next)) where
+      pub going-untaken : {n q : ℕ} → offered now (p .0) (p .1) ≡ refused n q → refusedWith n index t ≡ pairsTold t (readPairs t s)
+      unfolding growing
+      going-untaken f = ap (pairsTold t) (sym (offer-refused s at index (suc (length s) - index) growing some e f) ∙ g .reads)
+
+      pub going-on : {after : Table} {more : Lenders} → offered now (p .0) (p .1) ≡ done after → more .lenders ≡ lent (lenders .lenders) (p .0) (p .1)
+          → Going t s after more next (index + 1)
+      unfolding growing lendersIn
+      going-on {after} {more} f l =
+          let place = pair-place s at index e in
+          let onward = g .onward in
+          let counted : length (g .pairs) ≡ index = g .counted in
+          let z : suc (length s) - index - 1 ≡ suc (length s) - (index + 1) = omega arith in
+          record {
+            pairs = p ∷ g .pairs;
+            counted = omega arith;
+            lends = l ∙ ap (λ (ls : List ℕ). lent ls (p .0) (p .1)) (g .lends);
+            onward = omega arith;
+            inside = place .1;
+            reads =
+                ap (λ (n : ℕ). pairsFrom n s next (index + 1) (record { table = after; pairs = p ∷ g .pairs })) (sym z)
+                ∙ sym (pairs-on s at index (suc (length s) - index) growing some e f)
+                ∙ g .reads;
+          }
