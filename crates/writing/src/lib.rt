@@ -1,7 +1,8 @@
-// Bytes put into a lent buffer. One function stores; every writer of records and texts goes by it.
+// Bytes and numbers put into a lent buffer. One function stores; every writer of records and texts goes by it.
 ghost use lib.ListN.{length};
 ghost use Prim.Native.Nat.{_+_, _≤_};
 ghost use Rattle.writing.specs.Writing.{Placed, Wrote};
+ghost use Rattle.writing.specs.Decimals.{decimal};
 
 // Stores the bytes one after the other, where there is room for all of them.
 fn copy(out: &mut [u8], at: usize, bytes: &[u8]) -> usize
@@ -32,4 +33,24 @@ pub fn put_bytes(out: &mut [u8], at: usize, bytes: &[u8]) -> usize
         return at;
     }
     copy(out, at, bytes)
+}
+
+// The digits of the largest number.
+const MOST_DIGITS: usize = 20;
+
+// Puts a number in decimal into a buffer as `put_bytes` puts bytes. Its digits are found from the last one on.
+pub fn put_number(out: &mut [u8], at: usize, n: usize) -> usize
+    ensures { λ r. ⌜ Placed (now (out .entry)) at (decimal n) (now (out .exit)) r ⌝ }
+{
+    let mut digits = [0u8; MOST_DIGITS];
+    let mut from = MOST_DIGITS;
+    let mut rest = n;
+    while rest > 9 {
+        from -= 1;
+        digits[from] = b'0' + (rest % 10) as u8;
+        rest /= 10;
+    }
+    from -= 1;
+    digits[from] = b'0' + rest as u8;
+    put_bytes(out, at, &digits[from..])
 }
