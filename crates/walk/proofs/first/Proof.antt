@@ -1,6 +1,6 @@
--- `walk::first` meets its contract: a walk of its MIR, by hand. A `Walk` that one call returns is held in a local and passed to the here. All that the proof knows of `start` and of `here` is that each meets its contract.
--- The machine value that `start` returns is stored and passed on as it is. In a local of a body MIR erases the lifetime of the struct's type, so the value is shown to have the type at `erased`: what the struct owns does not say the lifetime's name.
--- Assumes nothing.
+-- `walk::first` meets its contract: a walk of its MIR, by hand. The `Walk` that `start` returns is held in a local and passed
+-- to `here`. All that the proof knows of the two is that each meets its contract. In a local MIR erases the lifetime of the
+-- struct's type, so the value is shown to have the type at `erased`. Assumes nothing.
 use mathlib.Core.Path.{_≡_, refl, ap, _∙_}
 use Prim.Native.Nat.{ℕ}
 use mathlib.Core.List.{List, [], _∷_}

@@ -1,5 +1,5 @@
--- `walk::start` meets its contract: a walk of its MIR, by hand. A `Walk` is made of the slice passed and 0, in the result's local.
--- A `&[u8]` is Copy, so what it owns is had twice: once for circuit at exit, and once inside the result, beside the facts of at.
+-- `walk::start` meets its contract: a walk of its MIR, by hand. A `Walk` is made of the slice passed and 0. A `&[u8]` is
+-- Copy, so what it owns is had twice: once for circuit at exit, and once inside the result, beside the facts of at.
 -- Assumes nothing.
 use mathlib.Core.Path.{refl}
 use Prim.Native.Nat.{ℕ}
