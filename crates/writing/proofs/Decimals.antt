@@ -110,7 +110,7 @@ pub decimal-injective : {m n : ℕ} → decimal m ≡ decimal n → m ≡ n
 decimal-injective {m} {n} e = sym (decimal-names m) ∙ ap (named 0) e ∙ decimal-names n
 
 -- a number below 10 ^ k has at most k digits
-decimal-length : (n k : ℕ) → n < 10 ^ suc k → length (decimal n) ≤ suc k
+pub decimal-length : (n k : ℕ) → n < 10 ^ suc k → length (decimal n) ≤ suc k
 decimal-length = each-decimal Short (λ m l k h. omega arith) more
   where
     Short : ℕ → List ℕ → Type 0

@@ -4,3 +4,4 @@ pub mod Digits
 pub mod Reading
 pub mod Decimals
 pub mod Spelling
+pub mod Rows

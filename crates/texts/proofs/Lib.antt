@@ -1,0 +1,3 @@
+pub mod Spaces
+pub mod Sizes
+pub mod Whole

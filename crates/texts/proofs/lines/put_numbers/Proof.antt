@@ -1,0 +1,65 @@
+-- `texts::lines::put_numbers` meets its contract. The loop's invariant: the numbers passed are written. Assumes nothing.
+use Prim.Native.Nat.{_+_, _*_, _-_, _≤_}
+use mathlib.Core.Path.{_≡_, refl, _∙_}
+use native.Mathlib.Omega.{arith}
+use borrow.Author.Needs.{needs}
+use lib.ListN.{length, take}
+use lib.Seq.{take-all}
+use Rattle.writing.specs.Writing.{Written}
+use Rattle.writing.proofs.Rows.{written-none, written-place, written-length, written-call}
+use Rattle.texts.specs.Lines.{spaced, spacedByte}
+use Rattle.texts.proofs.Spaces.{spaced-next}
+use Rattle.texts.proofs.lines.put_numbers.Statement.{statement}
+use Rattle.texts.proofs.lines.put_numbers.Tie as tie
+
+abbrev Inv-loop : tie.InvT-loop
+Inv-loop out₀ at numbers count to₀ i₀ out to i =
+    (i ≤ count) × (length out ≡ length out₀) × Written out₀ at (i * spacedByte) (spaced (take i numbers)) out to
+
+abbrev μ-loop : tie.MeasureT-loop
+μ-loop out₀ at numbers count to₀ i₀ out to i = count - i
+
+loop-holds : tie.Need-loop-holds Inv-loop μ-loop
+loop-holds c = (omega arith, refl, written-none)
+
+shared-slice-read-put-spaced : tie.Need-shared-slice-read-put-spaced Inv-loop μ-loop
+shared-slice-read-put-spaced c = search needs
+
+put-spaced-requires : tie.Need-put-spaced-requires Inv-loop μ-loop
+put-spaced-requires c κs = omega (arith, written-place (c .before .before .before .loop .inv .2))
+
+add-i : tie.Need-add-i Inv-loop μ-loop
+add-i c = omega arith
+
+loop-less : tie.Need-loop-less Inv-loop μ-loop
+loop-less c = omega arith
+
+loop-again : tie.Need-loop-again Inv-loop μ-loop
+loop-again c = (
+  omega arith,
+  written-length (c .before .before .put-spaced .ensures) (omega (arith, written-place (c .before .before .before .before .before .before .loop .inv .2))) ∙ c .before .before .before .before .before .before .loop .inv .1,
+  let e : (c .before .before .before .before .before .before .loop .i + 1) * spacedByte ≡ c .before .before .before .before .before .before .loop .i * spacedByte + spacedByte = omega arith in
+      rw (e, spaced-next (c .before .before .before .before .before .before .before .before .before .args .numbers .now) (c .before .before .before .before .before .before .loop .i) (omega arith)) (written-call (c .before .before .before .before .before .before .loop .inv .2) (c .before .before .put-spaced .ensures) (omega arith)),
+)
+
+same-length : tie.Need-same-length Inv-loop μ-loop
+same-length c = c .before .loop .inv .1
+
+returns : tie.Need-returns Inv-loop μ-loop
+returns c = let e : c .before .loop .i ≡ length (c .before .before .before .before .args .numbers .now) = omega arith in
+    rw (e, take-all (length (c .before .before .before .before .args .numbers .now)) (c .before .before .before .before .args .numbers .now) (omega arith)) at (c .before .loop .inv .2)
+
+pub put-numbers-spec : {M : Type 1} → statement M
+put-numbers-spec =
+    tie.close
+    (tie.spec
+    Inv-loop
+    μ-loop
+    loop-holds
+    shared-slice-read-put-spaced
+    put-spaced-requires
+    add-i
+    loop-less
+    loop-again
+    same-length
+    returns)
