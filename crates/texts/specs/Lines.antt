@@ -1,9 +1,14 @@
--- The lines of text that programs print: one for a record at its place, one for a refusal. Numbers are decimal, and each line
--- ends in one line feed.
+-- The lines of text that programs print: one for a record at its place, one for a refusal; and which of them is printed of
+-- what stands at a place. Numbers are decimal, and each line ends in one line feed.
 use Prim.Native.Nat.{ℕ, _+_, _*_}
+use mathlib.Core.Bool.{Bool, _&&_, not}
 use mathlib.Core.List.{List, [], _∷_, _++_}
+use lib.Dec.{eqb}
+use Rattle.basics.specs.Choice.{pick}
+use Rattle.basics.specs.Outcome.{Outcome, done, refused}
 use Rattle.writing.specs.Texts.{text}
 use Rattle.writing.specs.Decimals.{decimal, mostDigits}
+use Rattle.records.specs.Records.{Standing, stands, over}
 use Rattle.records.specs.Bytes.{angleBytes}
 use Rattle.records.specs.declared.instructions.Record.{Record}
 use Rattle.records.specs.declared.instructions.Record.the-variants.{StaticWidth, DynamicWidth, Step, Reuse}
@@ -67,6 +72,21 @@ lineOf place r = decimal place ++ nameOf r ++ spaced (numbersOf r) ++ angleText 
 -- the line of a refusal
 unfoldable pub refusalLine : ℕ → ℕ → List ℕ
 refusalLine number place = text "refused " ++ decimal number ++ text " at " ++ decimal place ++ text "\n"
+
+-- document 01's number for a body that runs past the end
+abbrev pub cut : ℕ
+cut = 2
+
+-- a refusal of a body that is cut where more may follow
+abbrev pub awaited : ℕ → Bool → Bool
+awaited number last = eqb number cut && not last
+
+-- what is printed of what stands at a place: a record's line, a refusal's line, nothing at the end, and nothing of a body that
+-- is cut where more may follow
+abbrev pub textAt : ℕ → Bool → Outcome Standing → List ℕ
+textAt place last (done (stands r next)) = lineOf place r
+textAt place last (done over) = []
+textAt place last (refused number at) = pick (awaited number last) [] (refusalLine number place)
 
 -- How much room they take at most
 

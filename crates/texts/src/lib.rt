@@ -1,6 +1,8 @@
 // Lines of text for programs to print, put into a lent buffer as bytes are.
 pub mod lines;
+pub mod places;
 pub mod refusals;
 
 pub use lines::put_line;
+pub use places::put_at;
 pub use refusals::put_refusal;

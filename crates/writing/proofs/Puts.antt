@@ -2,6 +2,9 @@
 use mathlib.Core.Bool.{Bool, true, false}
 use mathlib.Core.Path.{_≡_, refl, sym, ap, subst, _∙_}
 use mathlib.Core.List.{List, [], _∷_, _++_, append-assoc, append-nil}
+use mathlib.Core.Path.{_≡_, refl, sym, ap, _∙_}
+use mathlib.Core.Logic.{⊎-elim}
+use mathlib.Core.List.{List, [], _∷_, _++_, append-assoc}
 use Prim.Native.Nat.{ℕ, _+_, _≤_, _<_}
 use native.Mathlib.Omega.{arith}
 use native.Mathlib.Numerals.{add-one}
@@ -11,6 +14,9 @@ use borrow.Author.Tests.{le-leb, lt-leb, le-ltb, lt-ltb, leb-true}
 use Rattle.basics.specs.Choice.{pick}
 use Rattle.basics.specs.Outcome.{Outcome, done, refused}
 use Rattle.writing.specs.Writing.{put, fits, Wrote, Placed, Settled, fitted, sized, holding}
+use borrow.Author.Tests.{le-leb, lt-leb}
+use Rattle.basics.proofs.Tests.{below-or-not}
+use Rattle.writing.specs.Writing.{put, Wrote, Placed}
 
 pub put-none : (old : List ℕ) (at : ℕ) → put old at [] ≡ old
 unfolding put
@@ -131,3 +137,25 @@ module _ {old : List ℕ} {at : ℕ} {xs new : List ℕ} {to : ℕ} (p : Placed 
       go : (b : Bool) → fits old at xs ≡ b → pick b (at + length xs) at ≤ length old
       go true e = leb-true (at + length xs) (length old) e
       go false e = l
+-- nothing is always placed
+pub placed-none : {old : List ℕ} {at : ℕ} → Placed old at [] old at
+placed-none {old} {at} =
+    ⊎-elim (λ (l : length old < at + 0). no-room l) (λ (l : at + 0 ≤ length old). wrote-placed (record { holds = sym (put-none old at); end = omega arith }) l)
+    (below-or-not (length old) (at + 0))
+
+-- either way the place is within the buffer
+module _ {old : List ℕ} {at : ℕ} {xs new : List ℕ} {to : ℕ} (p : Placed old at xs new to) (inside : at ≤ length old) where
+  pub placed-within : to ≤ length new
+  placed-within = ⊎-elim none room (below-or-not (length old) (at + length xs))
+    where
+      none : length old < at + length xs → to ≤ length new
+      none l =
+          let n = ap length (rw (lt-leb (at + length xs) (length old) l) at (p .holds)) in
+          let t = rw (lt-leb (at + length xs) (length old) l) at (p .end) in
+          omega arith
+
+      room : at + length xs ≤ length old → to ≤ length new
+      room l = let w = placed-wrote p l in omega (arith, ap length (w .holds), length-put old at xs l, w .end)
+
+  pub placed-front : to ≡ length (take to new)
+  placed-front = sym (length-take-le to new placed-within)
