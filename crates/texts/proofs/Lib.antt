@@ -1,3 +1,4 @@
 pub mod Spaces
 pub mod Sizes
 pub mod Whole
+pub mod Worked

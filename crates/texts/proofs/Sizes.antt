@@ -9,7 +9,8 @@ use Rattle.records.specs.declared.instructions.Record.{Record}
 use Rattle.records.specs.declared.instructions.Record.the-variants.{StaticWidth, DynamicWidth, Step, Reuse}
 use Rattle.records.specs.declared.instructions.Instruction.the-variants.{Reset, Measurement, Gate, AngledGate, TwoLineGate, AngledTwoLineGate}
 use Rattle.texts.specs.declared.lines.Parts.{Parts}
-use Rattle.texts.specs.Lines.{nameOf, numbersOf, angleOf, longestName, mostNumbers, angleLength}
+use Rattle.texts.specs.Lines.{nameOf, numbersOf, angleOf}
+use Rattle.texts.specs.Room.{longestName, mostNumbers, angleLength}
 use Rattle.texts.specs.Parts.{partsOf}
 
 -- the parts of a record's bytes are its numbers and its angle

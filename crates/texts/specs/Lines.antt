@@ -1,13 +1,13 @@
 -- The lines of text that programs print: one for a record at its place, one for a refusal; and which of them is printed of
 -- what stands at a place. Numbers are decimal, and each line ends in one line feed.
-use Prim.Native.Nat.{ℕ, _+_, _*_}
+use Prim.Native.Nat.{ℕ}
 use mathlib.Core.Bool.{Bool, _&&_, not}
 use mathlib.Core.List.{List, [], _∷_, _++_}
 use lib.Dec.{eqb}
 use Rattle.basics.specs.Choice.{pick}
 use Rattle.basics.specs.Outcome.{Outcome, done, refused}
 use Rattle.writing.specs.Texts.{text}
-use Rattle.writing.specs.Decimals.{decimal, mostDigits}
+use Rattle.writing.specs.Decimals.{decimal}
 use Rattle.records.specs.Records.{Standing, stands, over}
 use Rattle.records.specs.Bytes.{angleBytes}
 use Rattle.records.specs.declared.instructions.Record.{Record}
@@ -87,32 +87,3 @@ abbrev pub textAt : ℕ → Bool → Outcome Standing → List ℕ
 textAt place last (done (stands r next)) = lineOf place r
 textAt place last (done over) = []
 textAt place last (refused number at) = pick (awaited number last) [] (refusalLine number place)
-
--- How much room they take at most
-
--- a space and the digits of a byte
-abbrev pub spacedByte : ℕ
-spacedByte = 4
-
-abbrev pub longestName : ℕ
-longestName = 14
-
-abbrev pub mostNumbers : ℕ
-mostNumbers = 3
-
-abbrev pub angleLength : ℕ
-angleLength = 8
-
-abbrev pub angleWord : ℕ
-angleWord = 6
-
--- an angle's bytes behind its word
-abbrev pub longestAngle : ℕ
-longestAngle = angleWord + angleLength * spacedByte
-
-abbrev pub longestLine : ℕ
-longestLine = mostDigits + longestName + mostNumbers * spacedByte + longestAngle + 1
-
--- its two words, its number, its place and the line feed
-abbrev pub longestRefusal : ℕ
-longestRefusal = 8 + 3 + 4 + mostDigits + 1

@@ -3,14 +3,14 @@ use records::Instruction;
 use records::Record;
 ghost use mathlib.Core.Path.{_≡_};
 ghost use mathlib.Core.List.{_++_};
-ghost use Prim.Native.Nat.{_+_, _*_, _≤_};
+ghost use Prim.Native.Nat.{_+_, _≤_};
 ghost use lib.ListN.{length};
 ghost use Rattle.writing.specs.Writing.{Placed, Written};
 ghost use Rattle.writing.specs.Decimals.{decimal};
 ghost use Rattle.writing.specs.Texts.{text};
 ghost use Rattle.texts.specs.Lines.{nameOf, instructionName, numbersOf, angleOf, spaced, angleText, lineOf};
 ghost use Rattle.texts.specs.Parts.{instructionParts, partsOf};
-ghost use Rattle.texts.specs.Lines.{spacedByte, angleWord, longestLine};
+ghost use Rattle.texts.specs.Room.{spacedByte, spacedRoom, angleRoom, longestLine};
 
 // Room for the longest line.
 const LONGEST_LINE: usize = 85;
@@ -81,8 +81,8 @@ fn put_spaced(out: &mut [u8], at: usize, n: u8) -> usize
 
 // Numbers, each behind a space.
 fn put_numbers(out: &mut [u8], at: usize, numbers: &[u8]) -> usize
-    requires { ⌜ at + length (now numbers) * spacedByte ≤ length (now out) ⌝ }
-    ensures { λ to. ⌜ Written (now (out .entry)) at (length (now (numbers .entry)) * spacedByte) (spaced (now (numbers .entry))) (now (out .exit)) to ⌝ }
+    requires { ⌜ at + spacedRoom (now numbers) ≤ length (now out) ⌝ }
+    ensures { λ to. ⌜ Written (now (out .entry)) at (spacedRoom (now (numbers .entry))) (spaced (now (numbers .entry))) (now (out .exit)) to ⌝ }
 {
     let count = numbers.len();
     let mut to = at;
@@ -96,8 +96,8 @@ fn put_numbers(out: &mut [u8], at: usize, numbers: &[u8]) -> usize
 
 // An angle's bytes behind its word; nothing where there is no angle.
 fn put_angle(out: &mut [u8], at: usize, angle: &[u8]) -> usize
-    requires { ⌜ at + (angleWord + length (now angle) * spacedByte) ≤ length (now out) ⌝ }
-    ensures { λ to. ⌜ Written (now (out .entry)) at (angleWord + length (now (angle .entry)) * spacedByte) (angleText (now (angle .entry))) (now (out .exit)) to ⌝ }
+    requires { ⌜ at + angleRoom (now angle) ≤ length (now out) ⌝ }
+    ensures { λ to. ⌜ Written (now (out .entry)) at (angleRoom (now (angle .entry))) (angleText (now (angle .entry))) (now (out .exit)) to ⌝ }
 {
     if angle.len() == 0 {
         return at;

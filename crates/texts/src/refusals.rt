@@ -2,7 +2,8 @@
 ghost use Prim.Native.Nat.{_≤_};
 ghost use lib.ListN.{length};
 ghost use Rattle.writing.specs.Writing.{Placed, Written};
-ghost use Rattle.texts.specs.Lines.{refusalLine, longestRefusal};
+ghost use Rattle.texts.specs.Lines.{refusalLine};
+ghost use Rattle.texts.specs.Room.{longestRefusal};
 
 // Room for the longest line.
 const LONGEST_REFUSAL: usize = 36;

@@ -19,7 +19,8 @@ use Rattle.records.specs.Bytes.{recordBytes, kindFits}
 use Rattle.records.specs.declared.instructions.Record.{Record}
 use Rattle.records.proofs.Standings.{at-end}
 use Rattle.records.proofs.RoundTrip.{Back, round-trip, rest-behind, back-length, reads-back}
-use Rattle.walk.specs.Walks.{Walked, hands, ends, refuses, onward, walkFrom, walkOf, Goes, handed, stopsAt, finishes, allBytes, allFit, handsOut}
+use Rattle.walk.specs.Walks.{Walked, hands, ends, refuses, onward, walkFrom, walkOf, Goes}
+use Rattle.walk.specs.Walks.{handed, stopsAt, finishes, allBytes, allFit, handsOut}
 
 -- What stands at a place
 
@@ -114,8 +115,8 @@ read s r rs at e f =
     (stood, round-trip s at stood)
 
 -- where whole records stand, up to the end, the walk hands out just these
-records-from : (s : List ℕ) (rs : List Record) (left at : ℕ) → drop at s ≡ allBytes rs → allFit rs ≡ true → length (allBytes rs) ≤ left
-    → walkFrom left s at ≡ handsOut at rs
+records-from : (s : List ℕ) (rs : List Record) (left at : ℕ) → drop at s ≡ allBytes rs → allFit rs ≡ true
+    → length (allBytes rs) ≤ left → walkFrom left s at ≡ handsOut at rs
 records-from s [] zero at e f l = refl
 records-from s [] (suc left) at e f l =
     let none = sym (length-drop at s) ∙ ap length e in

@@ -52,7 +52,7 @@ module _ (P : ℕ → List ℕ → Type 0) (one : (n : ℕ) → n < 10 → P n (
       (λ (l : 10 ≤ n). rw (decimal-more n l) (more n (decimal (n / 10)) l (up bound (n / 10) (omega arith))))
       (below-or-not n 10)
 
-  pub each-decimal : (n : ℕ) → P n (decimal n)
+  each-decimal : (n : ℕ) → P n (decimal n)
   each-decimal n = up n n (omega arith)
 
 -- a decimal has a digit, and no leading zero
@@ -88,7 +88,8 @@ decimal-digits = each-decimal Digits one more
         ⊎-elim (λ (k : i < length xs). rw (List·getD-append xs (digit (m % 10) ∷ []) 0 i k) (p i k))
         (λ (k : length xs ≤ i).
         let e : i ≡ length xs = omega (arith, length-append xs (digit (m % 10) ∷ [])) in
-        let d : getD (xs ++ (digit (m % 10) ∷ [])) i 0 ≡ digit (m % 10) = ap (λ (j : ℕ). getD (xs ++ (digit (m % 10) ∷ [])) j 0) e ∙ getD-append-seam xs (digit (m % 10)) [] 0 in
+        let last = getD-append-seam xs (digit (m % 10)) [] 0 in
+        let d : getD (xs ++ (digit (m % 10) ∷ [])) i 0 ≡ digit (m % 10) = rw e last in
         (omega arith, omega arith))
         (below-or-not i (length xs))
 

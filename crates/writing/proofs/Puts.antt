@@ -140,7 +140,8 @@ module _ {old : List ℕ} {at : ℕ} {xs new : List ℕ} {to : ℕ} (p : Placed 
 -- nothing is always placed
 pub placed-none : {old : List ℕ} {at : ℕ} → Placed old at [] old at
 placed-none {old} {at} =
-    ⊎-elim (λ (l : length old < at + 0). no-room l) (λ (l : at + 0 ≤ length old). wrote-placed (record { holds = sym (put-none old at); end = omega arith }) l)
+    ⊎-elim (λ (l : length old < at + 0). no-room l)
+    (λ (l : at + 0 ≤ length old). wrote-placed (record { holds = sym (put-none old at); end = omega arith }) l)
     (below-or-not (length old) (at + 0))
 
 -- either way the place is within the buffer

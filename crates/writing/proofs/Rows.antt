@@ -41,8 +41,8 @@ module _ {old : List ℕ} {at most : ℕ} {xs mid : List ℕ} {to : ℕ} (w : Wr
   written-more l = record { wrote = w .wrote; short = omega (arith, w .short) }
 
   -- and then what was put
-  pub written-put : {ys new : List ℕ} {end : ℕ} → Placed mid to ys new end → (more : ℕ) → length ys ≤ more → at + (most + more) ≤ length old
-      → Written old at (most + more) (xs ++ ys) new end
+  pub written-put : {ys new : List ℕ} {end : ℕ} → Placed mid to ys new end → (more : ℕ) → length ys ≤ more
+      → at + (most + more) ≤ length old → Written old at (most + more) (xs ++ ys) new end
   written-put {ys} p more s l =
       let size = written-length (omega arith) in
       let place = written-place in

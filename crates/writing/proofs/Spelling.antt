@@ -16,7 +16,8 @@ pub record Spelling (n : ℕ) (bytes : List ℕ) (from rest : ℕ) : Type 0 wher
   pub goes : decimal rest ++ drop from bytes ≡ decimal n
 
 -- one byte more, just before those that are there
-drop-before : (bytes : List ℕ) (from x : ℕ) → 0 < from → from ≤ length bytes → drop (from - 1) (set bytes (from - 1) x) ≡ x ∷ drop from bytes
+drop-before : (bytes : List ℕ) (from x : ℕ) → 0 < from → from ≤ length bytes
+    → drop (from - 1) (set bytes (from - 1) x) ≡ x ∷ drop from bytes
 drop-before bytes from x some within =
     let i : from - 1 < length bytes = omega arith in
     let z : from - 1 + 1 ≡ from = omega arith in

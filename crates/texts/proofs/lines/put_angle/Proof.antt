@@ -1,7 +1,7 @@
 -- `texts::lines::put_angle` meets its contract: nothing, or the word and the numbers. Assumes nothing.
 use native.Mathlib.Omega.{arith}
 use Rattle.writing.proofs.Rows.{written-none, placed-written, written-place, written-length, written-call}
-use Rattle.texts.specs.Lines.{angleWord}
+use Rattle.texts.specs.Room.{angleWord}
 use Rattle.texts.proofs.Spaces.{angle-none, angle-some}
 use borrow.Author.Needs.{needs}
 use Rattle.texts.proofs.lines.put_angle.Statement.{statement}
@@ -24,7 +24,12 @@ same-length : tie.Need-same-length
 same-length c = search needs
 
 returns-2 : tie.Need-returns-2
-returns-2 c = rw (angle-some (c .before .before .before .before .before .before .before .before .before .before .before .before .args .angle .now) (c .before .before .before .before .before .before .before .before .before .if1 .left)) (written-call (placed-written (c .before .before .before .before .before .before .put-bytes .ensures) angleWord (omega arith) (omega arith)) (c .before .before .put-numbers .ensures) (omega arith))
+returns-2 c =
+    let named = c .before .before .before .before .before .before in
+    let tested = named .before .before .before in
+    let angle = tested .before .before .before .args .angle .now in
+    rw (angle-some angle (tested .if1 .left))
+    (written-call (placed-written (named .put-bytes .ensures) angleWord (omega arith) (omega arith)) (c .before .before .put-numbers .ensures) (omega arith))
 
 pub put-angle-spec : {M : Type 1} → statement M
 put-angle-spec =

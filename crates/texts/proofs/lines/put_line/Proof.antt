@@ -17,29 +17,45 @@ slice-aggregate-write-line : tie.Need-slice-aggregate-write-line
 slice-aggregate-write-line c = search needs
 
 sub-write-line : tie.Need-sub-write-line
-sub-write-line c = parted (c .before .before .before .before .before .before .args .r) (c .before .before .before .before .encode .ensures) (c .before .record-parts .ensures) .ordered
+sub-write-line c =
+    let made = c .before in
+    let p = parted (made .before .before .before .before .before .args .r) (made .before .before .before .encode .ensures) (made .record-parts .ensures) in
+    p .ordered
 
 part-write-line-start : tie.Need-part-write-line-start
-part-write-line-start c = let p = parted (c .before .before .before .before .before .before .before .args .r) (c .before .before .before .before .before .encode .ensures) (c .before .before .record-parts .ensures) in
+part-write-line-start c =
+    let made = c .before .before in
+    let p = parted (made .before .before .before .before .before .args .r) (made .before .before .before .encode .ensures) (made .record-parts .ensures) in
     omega (arith, p .ordered)
 
 part-write-line-end : tie.Need-part-write-line-end
-part-write-line-end c = let p = parted (c .before .before .before .before .before .before .before .args .r) (c .before .before .before .before .before .encode .ensures) (c .before .before .record-parts .ensures) in
+part-write-line-end c =
+    let made = c .before .before in
+    let p = parted (made .before .before .before .before .before .args .r) (made .before .before .before .encode .ensures) (made .record-parts .ensures) in
     omega (arith, p .ordered, p .within, p .end, p .all)
 
 sub-write-line-2 : tie.Need-sub-write-line-2
-sub-write-line-2 c = parted (c .before .before .before .before .before .before .before .before .args .r) (c .before .before .before .before .before .before .encode .ensures) (c .before .before .before .record-parts .ensures) .within
+sub-write-line-2 c =
+    let made = c .before .before .before in
+    let p = parted (made .before .before .before .before .before .args .r) (made .before .before .before .encode .ensures) (made .record-parts .ensures) in
+    p .within
 
 part-write-line-start-2 : tie.Need-part-write-line-start-2
-part-write-line-start-2 c = let p = parted (c .before .before .before .before .before .before .before .before .before .args .r) (c .before .before .before .before .before .before .before .encode .ensures) (c .before .before .before .before .record-parts .ensures) in
+part-write-line-start-2 c =
+    let made = c .before .before .before .before in
+    let p = parted (made .before .before .before .before .before .args .r) (made .before .before .before .encode .ensures) (made .record-parts .ensures) in
     omega (arith, p .within)
 
 part-write-line-end-2 : tie.Need-part-write-line-end-2
-part-write-line-end-2 c = let p = parted (c .before .before .before .before .before .before .before .before .before .args .r) (c .before .before .before .before .before .before .before .encode .ensures) (c .before .before .before .before .record-parts .ensures) in
+part-write-line-end-2 c =
+    let made = c .before .before .before .before in
+    let p = parted (made .before .before .before .before .before .args .r) (made .before .before .before .encode .ensures) (made .record-parts .ensures) in
     omega (arith, p .within, p .end, p .all)
 
 write-line-requires : tie.Need-write-line-requires
-write-line-requires c κs = let p = parted (c .before .before .before .before .before .before .before .before .before .before .args .r) (c .before .before .before .before .before .before .before .before .encode .ensures) (c .before .before .before .before .before .record-parts .ensures) in
+write-line-requires c κs =
+    let made = c .before .before .before .before .before in
+    let p = parted (made .before .before .before .before .before .args .r) (made .before .before .before .encode .ensures) (made .record-parts .ensures) in
     (omega arith, (p .numbers, p .angle))
 
 array-share-prefix-line : tie.Need-array-share-prefix-line

@@ -7,7 +7,8 @@ use lib.ListN.{length, take}
 use lib.Seq.{take-all}
 use Rattle.writing.specs.Writing.{Written}
 use Rattle.writing.proofs.Rows.{written-none, written-place, written-length, written-call}
-use Rattle.texts.specs.Lines.{spaced, spacedByte}
+use Rattle.texts.specs.Lines.{spaced}
+use Rattle.texts.specs.Room.{spacedByte}
 use Rattle.texts.proofs.Spaces.{spaced-next}
 use Rattle.texts.proofs.lines.put_numbers.Statement.{statement}
 use Rattle.texts.proofs.lines.put_numbers.Tie as tie
@@ -35,19 +36,24 @@ loop-less : tie.Need-loop-less Inv-loop μ-loop
 loop-less c = omega arith
 
 loop-again : tie.Need-loop-again Inv-loop μ-loop
-loop-again c = (
-  omega arith,
-  written-length (c .before .before .put-spaced .ensures) (omega (arith, written-place (c .before .before .before .before .before .before .loop .inv .2))) ∙ c .before .before .before .before .before .before .loop .inv .1,
-  let e : (c .before .before .before .before .before .before .loop .i + 1) * spacedByte ≡ c .before .before .before .before .before .before .loop .i * spacedByte + spacedByte = omega arith in
-      rw (e, spaced-next (c .before .before .before .before .before .before .before .before .before .args .numbers .now) (c .before .before .before .before .before .before .loop .i) (omega arith)) (written-call (c .before .before .before .before .before .before .loop .inv .2) (c .before .before .put-spaced .ensures) (omega arith)),
-)
+loop-again c =
+    let turn = c .before .before .before .before .before .before .loop in
+    let numbers = c .before .before .before .before .before .before .before .before .before .args .numbers .now in
+    let put = c .before .before .put-spaced .ensures in
+    let room : (turn .i + 1) * spacedByte ≡ turn .i * spacedByte + spacedByte = omega arith in (
+      omega arith,
+      written-length put (omega (arith, written-place (turn .inv .2))) ∙ turn .inv .1,
+      rw (room, spaced-next numbers (turn .i) (omega arith)) (written-call (turn .inv .2) put (omega arith)),
+    )
 
 same-length : tie.Need-same-length Inv-loop μ-loop
 same-length c = c .before .loop .inv .1
 
 returns : tie.Need-returns Inv-loop μ-loop
-returns c = let e : c .before .loop .i ≡ length (c .before .before .before .before .args .numbers .now) = omega arith in
-    rw (e, take-all (length (c .before .before .before .before .args .numbers .now)) (c .before .before .before .before .args .numbers .now) (omega arith)) at (c .before .loop .inv .2)
+returns c =
+    let numbers = c .before .before .before .before .args .numbers .now in
+    let all : c .before .loop .i ≡ length numbers = omega arith in
+    rw (all, take-all (length numbers) numbers (omega arith)) at (c .before .loop .inv .2)
 
 pub put-numbers-spec : {M : Type 1} → statement M
 put-numbers-spec =

@@ -19,7 +19,11 @@ same-length : tie.Need-same-length
 same-length c = search needs
 
 returns : tie.Need-returns
-returns c = written-put (placed-written (c .before .before .before .before .before .before .put-bytes .ensures) 1 (omega arith) (omega arith)) (c .before .before .put-number .ensures) 3 (decimal-length (c .before .before .before .before .before .before .before .before .before .before .args .n) 2 (omega arith)) (omega arith)
+returns c =
+    let spaced = c .before .before .before .before .before .before in
+    let start = spaced .before .before .before .before in
+    written-put (placed-written (spaced .put-bytes .ensures) 1 (omega arith) (omega arith))
+    (c .before .before .put-number .ensures) 3 (decimal-length (start .args .n) 2 (omega arith)) (omega arith)
 
 pub put-spaced-spec : {M : Type 1} → statement M
 put-spaced-spec =

@@ -22,7 +22,10 @@ is-awaited-requires : tie.Need-is-awaited-requires
 is-awaited-requires c κs = search needs
 
 returns : tie.Need-returns
-returns c = rw (sym (c .before .before .before .before .before .record-at .ensures) ∙ ap answered (c .before .before .before .refusal .given .1), sym (c .before .is-awaited .ensures) ∙ c .if1 .taken) placed-none
+returns c =
+    let known = c .before .before .before in
+    let stood = sym (known .before .before .record-at .ensures) ∙ ap answered (known .refusal .given .1) in
+    rw (stood, sym (c .before .is-awaited .ensures) ∙ c .if1 .taken) placed-none
 
 put-refusal-requires : tie.Need-put-refusal-requires
 put-refusal-requires c κs = search needs
@@ -34,13 +37,20 @@ same-length : tie.Need-same-length
 same-length c = search needs
 
 returns-2 : tie.Need-returns-2
-returns-2 c = rw (sym (c .before .before .before .before .before .before .before .record-at .ensures) ∙ ap answered (c .before .before .before .before .before .item .given .1)) (c .before .before .put-line .ensures)
+returns-2 c =
+    let known = c .before .before .before .before .before in
+    let stood = sym (known .before .before .record-at .ensures) ∙ ap answered (known .item .given .1) in
+    rw stood (c .before .before .put-line .ensures)
 
 same-length-2 : tie.Need-same-length-2
 same-length-2 c = search needs
 
 returns-3 : tie.Need-returns-3
-returns-3 c = rw (sym (c .before .before .before .before .before .before .before .before .before .record-at .ensures) ∙ ap answered (c .before .before .before .before .before .before .before .refusal .given .1), sym (c .before .before .before .before .before .is-awaited .ensures) ∙ c .before .before .before .before .if1 .left) (c .before .before .put-refusal .ensures)
+returns-3 c =
+    let tested = c .before .before .before .before in
+    let known = tested .before .before .before in
+    let stood = sym (known .before .before .record-at .ensures) ∙ ap answered (known .refusal .given .1) in
+    rw (stood, sym (tested .before .is-awaited .ensures) ∙ tested .if1 .left) (c .before .before .put-refusal .ensures)
 
 returns-4 : tie.Need-returns-4
 returns-4 c = rw (sym (c .before .before .record-at .ensures) ∙ ap answered (c .enum-told .given .1)) placed-none

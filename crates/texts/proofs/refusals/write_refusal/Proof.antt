@@ -32,8 +32,14 @@ same-length : tie.Need-same-length
 same-length c = search needs
 
 returns : tie.Need-returns
-returns c = let start = c .before .before .before .before .before .before .before .before .before .before .before .before .before .before .before .before .before .before .before .before .before .before .before .before .args in
-    refusal-whole (start .number) (start .place) (c .before .before .before .before .before .before .before .before .before .before .before .before .before .before .before .before .before .before .before .before .before .before .before .before .fits .number .fits) (c .before .before .before .before .before .before .before .before .before .before .before .before .before .before .before .before .before .before .before .before .before .before .before .before .fits .place .fits) _ (c .before .before .before .before .before .before .before .before .before .before .before .before .before .before .before .before .before .before .before .before .before .before .before .before .pre) (c .before .before .before .before .before .before .before .before .before .before .before .before .before .before .before .before .before .before .before .before .put-bytes .ensures) (c .before .before .before .before .before .before .before .before .before .before .before .before .before .before .before .before .put-number .ensures) (c .before .before .before .before .before .before .before .before .before .before .before .put-bytes2 .ensures) (c .before .before .before .before .before .before .before .put-number2 .ensures) (c .before .before .put-bytes3 .ensures)
+returns c =
+    let placed = c .before .before .before .before .before .before .before in
+    let at = placed .before .before .before .before in
+    let numbered = at .before .before .before .before .before in
+    let refused = numbered .before .before .before .before in
+    let start = refused .before .before .before .before in
+    refusal-whole (start .args .number) (start .args .place) (start .fits .number .fits) (start .fits .place .fits) _ (start .pre)
+    (refused .put-bytes .ensures) (numbered .put-number .ensures) (at .put-bytes2 .ensures) (placed .put-number2 .ensures) (c .before .before .put-bytes3 .ensures)
 
 pub write-refusal-spec : {M : Type 1} → statement M
 write-refusal-spec =
