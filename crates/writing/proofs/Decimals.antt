@@ -27,9 +27,7 @@ digits-same (suc a) (suc b) (suc n) h k =
 -- a number below ten is one digit
 pub decimal-one : (n : ℕ) → n < 10 → decimal n ≡ digit n ∷ []
 unfolding decimal
-decimal-one n l =
-    ap (λ (xs : List ℕ). xs ++ (digit (n % 10) ∷ [])) (digits-none n (n / 10) (div-eq-of-lt l))
-    ∙ ap (λ (d : ℕ). digit d ∷ []) (mod-eq-of-lt l)
+decimal-one n l = rw (digits-none n (n / 10) (div-eq-of-lt l), mod-eq-of-lt l)
 
 -- any other has its last digit behind the decimal of what that leaves
 pub decimal-more : (n : ℕ) → 10 ≤ n → decimal n ≡ decimal (n / 10) ++ (digit (n % 10) ∷ [])
