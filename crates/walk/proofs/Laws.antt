@@ -19,7 +19,7 @@ use Rattle.records.specs.Bytes.{recordBytes, kindFits}
 use Rattle.records.specs.declared.instructions.Record.{Record}
 use Rattle.records.proofs.Standings.{at-end}
 use Rattle.records.proofs.RoundTrip.{Back, round-trip, rest-behind, back-length, reads-back}
-use Rattle.walk.specs.Walks.{Walked, hands, ends, refuses, onward, walkFrom, walkOf, Goes}
+use Rattle.walk.specs.Walks.{movedTo, placeAfter, Walked, hands, ends, refuses, onward, walkFrom, walkOf, Goes}
 use Rattle.walk.specs.Walks.{handed, stopsAt, finishes, allBytes, allFit, handsOut}
 
 -- What stands at a place
@@ -55,11 +55,14 @@ walk-from s (suc left) at l = go (λ next m. walk-from s left next m) (recordAt 
   where
     go : ((next : ℕ) → length s ≤ next + left → Goes s next (walkFrom left s next)) → (o : Outcome Standing) → recordAt s at ≡ o
         → Goes s at (onward at o (λ next. walkFrom left s next))
-    go rest (done (stands r next)) e = let past = round-trip s at e .past in (refl, (next, (e, rest next (omega arith))))
+    go rest (done (stands r next)) e =
+        let past = round-trip s at e .past in
+        let moved : placeAfter s at ≡ next = ap (movedTo at) e in
+        (refl, rw moved e, rw moved (rest next (omega arith)))
     go rest (done over) e = (refl, e)
     go rest (refused number place) e = (subst (Stops s at) e (stops s at) .0, e)
 
--- from the start: each record at its place, the next one where that ends, up to the end or the first fault
+-- from the start: each record at its place, the next one where the walk moves to, up to the end or the first fault
 pub walk-goes : (s : List ℕ) → Goes s 0 (walkOf s)
 unfolding walkOf
 walk-goes s = walk-from s (length s) 0 (omega arith)
@@ -68,32 +71,32 @@ walk-goes s = walk-from s (length s) 0 (omega arith)
 
 -- the bytes of what is handed out are as many as the walk passes
 bytes-length : (s : List ℕ) (at : ℕ) (w : Walked) → Goes s at w → at + length (allBytes (handed w)) ≡ stopsAt w
-bytes-length s at (hands place r w) (e, (next, (stood, g))) =
+bytes-length s at (hands place r w) (e, stood, g) =
     let size = back-length s at (round-trip s at stood) in
-    let rest = bytes-length s next w g in
+    let rest = bytes-length s (placeAfter s at) w g in
     omega (arith, length-append (recordBytes r) (allBytes (handed w)))
 bytes-length s at (ends place) g = let e = g .0 in omega arith
 bytes-length s at (refuses number place) g = let e = g .0 in omega arith
 
 -- and they stand before what the walk leaves
 bytes-before : (s : List ℕ) (at : ℕ) (w : Walked) → Goes s at w → allBytes (handed w) ++ drop (stopsAt w) s ≡ drop at s
-bytes-before s at (hands place r w) (e, (next, (stood, g))) =
+bytes-before s at (hands place r w) (e, stood, g) =
     append-assoc (recordBytes r) (allBytes (handed w)) (drop (stopsAt w) s)
-    ∙ ap (λ (xs : List ℕ). recordBytes r ++ xs) (bytes-before s next w g)
+    ∙ ap (λ (xs : List ℕ). recordBytes r ++ xs) (bytes-before s (placeAfter s at) w g)
     ∙ sym (rest-behind s at (round-trip s at stood))
 bytes-before s at (ends place) g = ap (λ (p : ℕ). drop p s) (g .0)
 bytes-before s at (refuses number place) g = ap (λ (p : ℕ). drop p s) (g .0)
 
 -- every kind that is handed out is one of its form's
 kinds-fit : (s : List ℕ) (at : ℕ) (w : Walked) → Goes s at w → allFit (handed w) ≡ true
-kinds-fit s at (hands place r w) (e, (next, (stood, g))) =
-    and-intro (kindFits r) (allFit (handed w)) (round-trip s at stood .fits) (kinds-fit s next w g)
+kinds-fit s at (hands place r w) (e, stood, g) =
+    and-intro (kindFits r) (allFit (handed w)) (round-trip s at stood .fits) (kinds-fit s (placeAfter s at) w g)
 kinds-fit s at (ends place) g = refl
 kinds-fit s at (refuses number place) g = refl
 
 -- a walk that comes to the end leaves nothing
 nothing-left : (s : List ℕ) (at : ℕ) (w : Walked) → Goes s at w → finishes w ≡ true → length s ≤ stopsAt w
-nothing-left s at (hands place r w) (e, (next, (stood, g))) f = nothing-left s next w g f
+nothing-left s at (hands place r w) (e, stood, g) f = nothing-left s (placeAfter s at) w g f
 nothing-left s at (ends place) (e, stood) f = let l = subst (Stops s at) stood (stops s at) in omega arith
 nothing-left s at (refuses number place) g f = absurd (false≢true f)
 

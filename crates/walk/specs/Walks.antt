@@ -40,10 +40,10 @@ walkFrom (suc left) s at = onward at (recordAt s at) (λ next. walkFrom left s n
 unfoldable pub walkOf : List ℕ → Walked
 walkOf s = walkFrom (length s) s 0
 
--- a walk goes on from a place as what stands there says: each record at its place, the next one where that ends
+-- a walk hands out what stands at its place, and goes on from the place that it moves to
 abbrev pub Goes : List ℕ → ℕ → Walked → Type 0
 Goes s at (hands place r w) =
-    (place ≡ at) × ((next : ℕ) × ((recordAt s at ≡ done (stands r next)) × Goes s next w))
+    (place ≡ at) × (recordAt s at ≡ done (stands r (placeAfter s at))) × Goes s (placeAfter s at) w
 Goes s at (ends place) = (place ≡ at) × (recordAt s at ≡ done over)
 Goes s at (refuses number place) = (place ≡ at) × (recordAt s at ≡ refused number place)
 
