@@ -1,1 +1,2 @@
 pub mod PairTurns
+pub mod PairLaws

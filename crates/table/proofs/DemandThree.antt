@@ -102,7 +102,7 @@ module _ (s : List ℕ) (c : Static) (e : readCircuit s ≡ done c) where
 -- An offer
 
 -- the width is one that document 01 takes
-abbrev Right : Table → Type 0
+abbrev pub Right : Table → Type 0
 Right t = wrongWidth t ≡ false
 
 module _ (p : Pair) (g : Growing) (right : Right (g .table)) where
@@ -166,7 +166,7 @@ module _ (s : List ℕ) (c : Static) (e : readCircuit s ≡ done c) (os : List P
   grown : Growing
   grown = offersTo os (grownFrom c)
 
-  start-width : Right (startTable c)
+  pub start-width : Right (startTable c)
   unfolding startTable
   start-width =
       let w = read-valid s e in

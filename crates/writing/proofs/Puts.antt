@@ -2,9 +2,7 @@
 use mathlib.Core.Bool.{Bool, true, false}
 use mathlib.Core.Path.{_≡_, refl, sym, ap, subst, _∙_}
 use mathlib.Core.List.{List, [], _∷_, _++_, append-assoc, append-nil}
-use mathlib.Core.Path.{_≡_, refl, sym, ap, _∙_}
 use mathlib.Core.Logic.{⊎-elim}
-use mathlib.Core.List.{List, [], _∷_, _++_, append-assoc}
 use Prim.Native.Nat.{ℕ, _+_, _≤_, _<_}
 use native.Mathlib.Omega.{arith}
 use native.Mathlib.Numerals.{add-one}
@@ -14,9 +12,7 @@ use borrow.Author.Tests.{le-leb, lt-leb, le-ltb, lt-ltb, leb-true}
 use Rattle.basics.specs.Choice.{pick}
 use Rattle.basics.specs.Outcome.{Outcome, done, refused}
 use Rattle.writing.specs.Writing.{put, fits, Wrote, Placed, Settled, fitted, sized, holding}
-use borrow.Author.Tests.{le-leb, lt-leb}
 use Rattle.basics.proofs.Tests.{below-or-not}
-use Rattle.writing.specs.Writing.{put, Wrote, Placed}
 
 pub put-none : (old : List ℕ) (at : ℕ) → put old at [] ≡ old
 unfolding put
@@ -131,32 +127,20 @@ module _ {old : List ℕ} {at : ℕ} {xs new : List ℕ} {to : ℕ} (p : Placed 
       go true e = length-put old at xs (leb-true (at + length xs) (length old) e)
       go false e = refl
 
-  pub placed-within : at ≤ length old → to ≤ length old
-  placed-within l = subst (λ (n : ℕ). n ≤ length old) (sym (p .end)) (go (fits old at xs) refl)
+  pub placed-within : at ≤ length old → to ≤ length new
+  placed-within l =
+      omega (arith, placed-length, subst (λ (n : ℕ). n ≤ length old) (sym (p .end)) (go (fits old at xs) refl))
     where
       go : (b : Bool) → fits old at xs ≡ b → pick b (at + length xs) at ≤ length old
       go true e = leb-true (at + length xs) (length old) e
       go false e = l
+
+  pub placed-front : at ≤ length old → to ≡ length (take to new)
+  placed-front l = sym (length-take-le to new (placed-within l))
+
 -- nothing is always placed
 pub placed-none : {old : List ℕ} {at : ℕ} → Placed old at [] old at
 placed-none {old} {at} =
     ⊎-elim (λ (l : length old < at + 0). no-room l)
     (λ (l : at + 0 ≤ length old). wrote-placed (record { holds = sym (put-none old at); end = omega arith }) l)
     (below-or-not (length old) (at + 0))
-
--- either way the place is within the buffer
-module _ {old : List ℕ} {at : ℕ} {xs new : List ℕ} {to : ℕ} (p : Placed old at xs new to) (inside : at ≤ length old) where
-  pub placed-within : to ≤ length new
-  placed-within = ⊎-elim none room (below-or-not (length old) (at + length xs))
-    where
-      none : length old < at + length xs → to ≤ length new
-      none l =
-          let n = ap length (rw (lt-leb (at + length xs) (length old) l) at (p .holds)) in
-          let t = rw (lt-leb (at + length xs) (length old) l) at (p .end) in
-          omega arith
-
-      room : at + length xs ≤ length old → to ≤ length new
-      room l = let w = placed-wrote p l in omega (arith, ap length (w .holds), length-put old at xs l, w .end)
-
-  pub placed-front : to ≡ length (take to new)
-  placed-front = sym (length-take-le to new placed-within)

@@ -2,10 +2,8 @@
 use mathlib.Core.Path.{_≡_}
 use mathlib.Core.Bool.{Bool}
 use mathlib.Core.List.{List, _++_}
-use Prim.Native.Nat.{ℕ, _+_}
-use lib.Dec.{leb, ltb}
 use Prim.Native.Nat.{ℕ, _+_, _≤_}
-use lib.Dec.{leb}
+use lib.Dec.{leb, ltb}
 use lib.ListN.{length, take, drop}
 use Rattle.basics.specs.Choice.{pick}
 use Rattle.basics.specs.Outcome.{Outcome, done, refused}
@@ -48,6 +46,7 @@ holding old (refused n p) = old
 pub record Settled (old : List ℕ) (o : Outcome (List ℕ)) (told : Outcome ℕ) (new : List ℕ) : Type 0 where
   pub tells : told ≡ sized o
   pub leaves : new ≡ holding old o
+
 -- what is written takes no more than `most` bytes
 pub record Written (old : List ℕ) (at most : ℕ) (xs new : List ℕ) (to : ℕ) : Type 0 where
   pub wrote : Wrote old at xs new to
