@@ -8,9 +8,15 @@
 #![forbid(unsafe_code)]
 
 mod circuit;
+mod graph;
 mod instruction;
+mod pair;
 mod refusal;
+mod table;
 
 pub use circuit::{read, rewrite, Circuit};
+pub use graph::Accepted;
 pub use instruction::{Bit, Instruction, Wire};
+pub use pair::Pair;
 pub use refusal::Refusal;
+pub use table::Table;

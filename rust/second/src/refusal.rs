@@ -5,6 +5,7 @@
 pub struct Refusal {
     /// The number in the document's table.
     pub number: u8,
-    /// The place that the table gives for that number: an offset, a wire or a length.
+    /// The place that the table gives for that number: an offset, a wire, a pair's
+    /// index or a length.
     pub place: usize,
 }
