@@ -9,6 +9,7 @@
 
 mod circuit;
 mod graph;
+mod greedy;
 mod instruction;
 mod pair;
 mod refusal;
@@ -16,6 +17,7 @@ mod table;
 
 pub use circuit::{read, rewrite, Circuit};
 pub use graph::Accepted;
+pub use greedy::{greedy, Greedy};
 pub use instruction::{Bit, Instruction, Wire};
 pub use pair::Pair;
 pub use refusal::Refusal;
