@@ -14,6 +14,24 @@ mod library {
             out: *mut u8,
             out_length: usize,
         ) -> u64;
+        pub fn thaksipho_start(
+            circuit: *const u8,
+            circuit_length: usize,
+            out: *mut u8,
+            out_length: usize,
+        ) -> u64;
+        pub fn thaksipho_may(table: *const u8, table_length: usize, lender: u8, taker: u8) -> u64;
+        pub fn thaksipho_offer(
+            table: *const u8,
+            table_length: usize,
+            lender: u8,
+            taker: u8,
+            out: *mut u8,
+            out_length: usize,
+        ) -> u64;
+        pub fn thaksipho_count(table: *const u8, table_length: usize) -> u64;
+        pub fn thaksipho_score(table: *const u8, table_length: usize, lender: u8, taker: u8)
+            -> u64;
     }
 }
 
@@ -28,4 +46,32 @@ pub(crate) fn rewrite(circuit: &[u8], out: &mut [u8]) -> u64 {
     unsafe {
         library::thaksipho_rewrite(circuit.as_ptr(), circuit.len(), out.as_mut_ptr(), out.len())
     }
+}
+
+pub(crate) fn start(circuit: &[u8], out: &mut [u8]) -> u64 {
+    // SAFETY: as for `rewrite`.
+    unsafe {
+        library::thaksipho_start(circuit.as_ptr(), circuit.len(), out.as_mut_ptr(), out.len())
+    }
+}
+
+pub(crate) fn may(table: &[u8], lender: u8, taker: u8) -> u64 {
+    // SAFETY: as for `read`; any numbers are answered.
+    unsafe { library::thaksipho_may(table.as_ptr(), table.len(), lender, taker) }
+}
+
+pub(crate) fn offer(table: &[u8], lender: u8, taker: u8, out: &mut [u8]) -> u64 {
+    let (out, out_length) = (out.as_mut_ptr(), out.len());
+    // SAFETY: as for `rewrite`; any numbers are answered.
+    unsafe { library::thaksipho_offer(table.as_ptr(), table.len(), lender, taker, out, out_length) }
+}
+
+pub(crate) fn count(table: &[u8]) -> u64 {
+    // SAFETY: as for `read`.
+    unsafe { library::thaksipho_count(table.as_ptr(), table.len()) }
+}
+
+pub(crate) fn score(table: &[u8], lender: u8, taker: u8) -> u64 {
+    // SAFETY: as for `may`.
+    unsafe { library::thaksipho_score(table.as_ptr(), table.len(), lender, taker) }
 }

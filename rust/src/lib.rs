@@ -8,6 +8,10 @@
 #![deny(unsafe_code)]
 
 mod boundary;
+pub mod bytes;
+mod table;
+
+pub use table::{count, may, offer, score, start, Table, Wire};
 
 use std::error::Error;
 use std::fmt;
@@ -17,7 +21,7 @@ use std::fmt;
 pub struct Refusal {
     /// The number in the table of refusals.
     pub number: u8,
-    /// The place that goes with the number: an offset, a wire, or the length needed.
+    /// The place that goes with the number: an offset, a wire, a pair's index or the length needed.
     pub place: u32,
 }
 

@@ -1,0 +1,44 @@
+//! The calls on tables as the static library has them: a table is any byte slice, and a call that
+//! writes does so into a lent buffer of any length.
+//!
+//! The bytes of a table are its width, its 32 rows of marks, the used lenders and the used takers,
+//! each of the last 34 in four bytes, lowest byte first, wire 0 the lowest bit. Missing bytes count
+//! as 0, and further ones are not read.
+//!
+//! Where a lent buffer is too short the refusal is 31, and its place is the length needed; it comes
+//! after every other refusal. What is written stands at the buffer's start, and the rest stays.
+
+use crate::{boundary, outcome, Refusal, Wire};
+
+/// Writes a static circuit's table, and gives the number of bytes written: [`crate::Table::LENGTH`].
+/// A circuit is refused as [`crate::read`] refuses it.
+pub fn start(circuit: &[u8], out: &mut [u8]) -> Result<usize, Refusal> {
+    let written = outcome(boundary::start(circuit, out))?;
+    Ok(written as usize)
+}
+
+/// Whether the lender may lend to the taker. See [`crate::may`].
+pub fn may(table: &[u8], lender: Wire, taker: Wire) -> Result<bool, Refusal> {
+    match outcome(boundary::may(table, lender.0, taker.0))? {
+        0 => Ok(false),
+        1 => Ok(true),
+        other => unreachable!("a mark is yes or no, not {other}"),
+    }
+}
+
+/// Offers a pair. Where it is taken the new table is written, and the answer is the number of bytes
+/// written; a refused offer writes nothing. See [`crate::offer`].
+pub fn offer(table: &[u8], lender: Wire, taker: Wire, out: &mut [u8]) -> Result<usize, Refusal> {
+    let written = outcome(boundary::offer(table, lender.0, taker.0, out))?;
+    Ok(written as usize)
+}
+
+/// How many pairs are yes. See [`crate::count`].
+pub fn count(table: &[u8]) -> Result<u32, Refusal> {
+    outcome(boundary::count(table))
+}
+
+/// How many pairs are yes after accepting a pair. See [`crate::score`].
+pub fn score(table: &[u8], lender: Wire, taker: Wire) -> Result<u32, Refusal> {
+    outcome(boundary::score(table, lender.0, taker.0))
+}
