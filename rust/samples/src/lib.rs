@@ -1,4 +1,5 @@
-//! Inputs for tests and benchmarks: records, valid circuits of every shape, and damage done to them.
+//! Inputs for tests and benchmarks: records, valid circuits of every shape, damage done to them,
+//! tables made by hand, and pairs to offer.
 //!
 //! A circuit made here is valid by the way it is made. Nothing here reads or judges one, so that
 //! neither program is tested against itself.
@@ -9,7 +10,9 @@
 pub mod circuits;
 pub mod damage;
 pub mod document;
+pub mod pairs;
 pub mod random;
 pub mod records;
+pub mod tables;
 
 pub use random::Random;
