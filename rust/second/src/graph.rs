@@ -19,6 +19,11 @@ impl<'a> Accepted<'a> {
         }
     }
 
+    /// The circuit.
+    pub fn circuit(&self) -> &Circuit {
+        self.circuit
+    }
+
     /// The pairs, in the order in which they were accepted.
     pub fn pairs(&self) -> &[Pair] {
         &self.pairs

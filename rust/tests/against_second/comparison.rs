@@ -1,5 +1,5 @@
-//! The comparison that the tests rest on: one input, read and rewritten by the proved library and
-//! by the second program.
+//! What the tests rest on: one input, read and rewritten by the proved library and by the second
+//! program, what a call leaves in a lent buffer, and what was seen so far.
 
 use std::collections::BTreeMap;
 use thaksipho::{Circuit, Refusal};
@@ -32,12 +32,39 @@ pub fn of_second(refusal: second::Refusal) -> Refusal {
     }
 }
 
+/// Calls with a lent buffer of `room` bytes, and looks at the refusal and at the whole buffer: the
+/// expected bytes at its start, or where the room is too short 31 with the length needed; after a
+/// refusal nothing. Gives the call's answer.
+pub fn compare_writing<T>(
+    room: usize,
+    expected: &Result<Vec<u8>, Refusal>,
+    call: impl FnOnce(&mut [u8]) -> Result<T, Refusal>,
+) -> Result<T, Refusal> {
+    let mut out = vec![UNTOUCHED; room + BEYOND];
+    let mut expected_out = out.clone();
+    let answer = call(&mut out[..room]);
+    let refusal = match expected {
+        Ok(bytes) if bytes.len() > room => Some(Refusal {
+            number: 31,
+            place: bytes.len() as u32,
+        }),
+        Ok(bytes) => {
+            expected_out[..bytes.len()].copy_from_slice(bytes);
+            None
+        }
+        Err(refusal) => Some(*refusal),
+    };
+    assert_eq!(answer.as_ref().err(), refusal.as_ref(), "{room} bytes");
+    assert_eq!(out, expected_out, "{room} bytes");
+    answer
+}
+
 /// What was seen so far, so that a test can say that it saw enough.
 #[derive(Default)]
 pub struct Seen {
-    /// How many inputs were accepted.
+    /// How many inputs, or offers, were accepted.
     pub accepted: u64,
-    /// How many inputs each refusal was given to.
+    /// How many each refusal was given to.
     pub refused: BTreeMap<u8, u64>,
 }
 
@@ -47,7 +74,12 @@ impl Seen {
         let expected = second_read(input);
         assert_eq!(thaksipho::read(input), expected, "read of {input:02x?}");
         compare_rewriting(input, input.len() + SPARE_ROOM);
-        match expected {
+        self.note(&expected);
+    }
+
+    /// Notes one answer.
+    pub fn note<T>(&mut self, answer: &Result<T, Refusal>) {
+        match answer {
             Ok(_) => self.accepted += 1,
             Err(refusal) => *self.refused.entry(refusal.number).or_default() += 1,
         }

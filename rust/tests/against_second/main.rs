@@ -7,3 +7,5 @@ mod document;
 mod exhaustive;
 mod limits;
 mod random;
+mod settings;
+mod table;

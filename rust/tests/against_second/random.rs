@@ -1,34 +1,16 @@
 //! Many random inputs: a third valid, a third damaged, a third of records or bytes in no order.
-//!
-//! `THAKSIPHO_RANDOM_COUNT` raises how many there are, and `THAKSIPHO_RANDOM_SEED` gives others.
 
 use crate::comparison::Seen;
+use crate::settings::count_and_source;
 use samples::circuits::any_circuit;
 use samples::damage::{damaged_circuit, disordered_input};
-use samples::Random;
-use std::env;
 
 const COUNT: u64 = 200_000;
 const SEED: u64 = 2024;
 
-/// The number in an environment variable, or another where it is not set.
-fn setting(name: &str, otherwise: u64) -> u64 {
-    match env::var(name) {
-        Ok(text) => text
-            .parse()
-            .unwrap_or_else(|_| panic!("{name} is a number, not {text:?}")),
-        Err(_) => otherwise,
-    }
-}
-
 #[test]
 fn random_inputs() {
-    // A lower count could miss a refusal, and the test asks for each.
-    let count = setting("THAKSIPHO_RANDOM_COUNT", COUNT).max(COUNT);
-    let seed = setting("THAKSIPHO_RANDOM_SEED", SEED);
-    println!("{count} inputs from seed {seed}");
-
-    let mut random = Random::new(seed);
+    let (count, mut random) = count_and_source(COUNT, SEED);
     let mut valid = Seen::default();
     let mut damaged = Seen::default();
     let mut disordered = Seen::default();
