@@ -31,12 +31,17 @@ pub struct Shape {
 }
 
 impl Shape {
-    /// A shape for many small circuits: seldom more than a dozen wires or two dozen gates. One in
-    /// two hundred has as many instructions as there may be, or one or two less.
+    /// A shape for many small circuits: seldom more than a dozen wires or two dozen gates.
     pub fn random(random: &mut Random) -> Shape {
         let most_wires = random.one_of(&[1, 2, 3, 4, 6, 8, 12, MOST_WIRES]);
-        let most_gates = random.one_of(&[1, 4, 8, 24, 60]);
         let wires = 1 + random.below(usize::from(most_wires)) as u8;
+        Shape::of_width(random, wires)
+    }
+
+    /// A shape with this many wires. One in two hundred has as many instructions as there may be,
+    /// or one or two less.
+    pub fn of_width(random: &mut Random, wires: u8) -> Shape {
+        let most_gates = random.one_of(&[1, 4, 8, 24, 60]);
         let gates = match random.once_in(200) {
             true => MOST_INSTRUCTIONS - 2 * usize::from(wires) - random.below(3),
             false => random.below(most_gates + 1),

@@ -73,20 +73,25 @@ impl Table {
         bytes
     }
 
-    /// The yes marks that count: below the width, off the diagonal, where the lender isn't marked
-    /// as lending and the taker isn't marked as taking.
+    /// The yes marks that count.
     pub fn counting(&self) -> BTreeSet<Pair> {
-        let counts = |pair: &&Pair| self.counts(**pair);
-        self.marks.iter().filter(counts).copied().collect()
+        let marks = self.marks.iter().copied();
+        marks.filter(|&pair| self.is_open(pair)).collect()
     }
 
-    fn counts(&self, pair: Pair) -> bool {
-        self.marks.contains(&pair)
-            && pair.lender.0 < self.width
+    /// Whether a mark of the pair counts: below the width, off the diagonal, where the lender isn't
+    /// marked as lending and the taker isn't marked as taking.
+    fn is_open(&self, pair: Pair) -> bool {
+        pair.lender.0 < self.width
             && pair.taker.0 < self.width
             && pair.lender != pair.taker
             && !self.lending.contains(&pair.lender)
             && !self.taking.contains(&pair.taker)
+    }
+
+    /// Whether the pair has a mark, and it counts.
+    fn counts(&self, pair: Pair) -> bool {
+        self.marks.contains(&pair) && self.is_open(pair)
     }
 
     /// Whether the pair is yes, or 27.
@@ -98,7 +103,11 @@ impl Table {
     /// How many pairs are yes, or 27.
     pub fn count(&self) -> Result<usize, Refusal> {
         self.check_width()?;
-        Ok(self.counting().len())
+        Ok(self
+            .marks
+            .iter()
+            .filter(|&&pair| self.is_open(pair))
+            .count())
     }
 
     /// The table after accepting the pair, or the refusal: 27, 20, 21, 22, 23.
@@ -138,16 +147,20 @@ impl Table {
     /// taker's column become no, and both wires are marked used.
     fn accepting(&self, accepted: Pair) -> Table {
         let Pair { lender, taker } = accepted;
-        let mut marks = self.counting();
+        let yes = self.counting();
         let wires = || (0..self.width).map(Wire);
         let takers: BTreeSet<Wire> = wires()
-            .filter(|&v| !marks.contains(&Pair { lender, taker: v }))
+            .filter(|&v| !yes.contains(&Pair { lender, taker: v }))
             .collect();
         let lenders: BTreeSet<Wire> = wires()
-            .filter(|&u| !marks.contains(&Pair { lender: u, taker }))
+            .filter(|&u| !yes.contains(&Pair { lender: u, taker }))
             .collect();
-        marks.retain(|pair| !(lenders.contains(&pair.lender) && takers.contains(&pair.taker)));
-        marks.retain(|pair| pair.lender != lender && pair.taker != taker);
+        let becomes_no = |pair: &Pair| {
+            (lenders.contains(&pair.lender) && takers.contains(&pair.taker))
+                || pair.lender == lender
+                || pair.taker == taker
+        };
+        let marks = yes.into_iter().filter(|pair| !becomes_no(pair)).collect();
         Table {
             width: self.width,
             marks,

@@ -145,39 +145,34 @@ fn random_offers_to_random_circuits() {
 }
 
 #[test]
-fn every_sequence_of_offers_over_4_wires() {
+fn every_sequence_of_offers_over_4_wires_with_up_to_3_gates() {
     let mut seen = Seen::default();
-    let two_wires: Vec<_> = every_pair(3)
-        .filter(|(first, second)| first < second)
+    let two_wires = every_pair(3).filter(|(first, second)| first < second);
+    let gates: Vec<_> = two_wires
+        .map(|(first, second)| pair_gate(TWO_WIRES, first, second))
         .collect();
-    let mut circuits = vec![vec![]];
-    for gates in 0..=2 {
-        circuits = match gates {
-            0 => circuits,
-            _ => with_one_gate_more(&circuits, &two_wires),
-        };
-        for gates in &circuits {
-            let resets = (0..4).map(reset);
-            let measurements = (0..4).map(|wire| measurement(wire, wire));
-            let records: Vec<_> = resets.chain(gates.clone()).chain(measurements).collect();
-            let input = joined(4, &records);
-            let circuit = second::read(&input).expect("the circuit is valid");
-            offer_on(&Both::start(&input, &circuit), &mut seen);
-        }
-    }
+    extend_by_gates(&mut Vec::new(), 3, &gates, &mut seen);
     assert!(seen.accepted > 0);
     assert_eq!(seen.numbers(), [20, 21, 22, 23]);
 }
 
-fn with_one_gate_more(circuits: &[Vec<Vec<u8>>], wires: &[(u8, u8)]) -> Vec<Vec<Vec<u8>>> {
-    let mut longer = Vec::new();
-    for gates in circuits {
-        for &(first, second) in wires {
-            let last = pair_gate(TWO_WIRES, first, second);
-            longer.push([&gates[..], &[last]].concat());
+/// Makes every sequence of offers to the circuit with these gates, then to the circuit with each
+/// gate after them, and so on until `left` gates were added.
+fn extend_by_gates(so_far: &mut Vec<Vec<u8>>, left: usize, gates: &[Vec<u8>], seen: &mut Seen) {
+    let resets = (0..4).map(reset);
+    let measurements = (0..4).map(|wire| measurement(wire, wire));
+    let between = so_far.iter().cloned();
+    let records: Vec<_> = resets.chain(between).chain(measurements).collect();
+    let input = joined(4, &records);
+    let circuit = second::read(&input).expect("the circuit is valid");
+    offer_on(&Both::start(&input, &circuit), seen);
+    if left > 0 {
+        for gate in gates {
+            so_far.push(gate.clone());
+            extend_by_gates(so_far, left - 1, gates, seen);
+            so_far.pop();
         }
     }
-    longer
 }
 
 /// Offers every pair, and goes on from every one that is taken.
