@@ -16,13 +16,28 @@ total-more : (k : ℕ) (f : ℕ → ℕ) → total (k + 1) f ≡ total k f + f k
 unfolding total
 total-more k f = rw add-one
 
-total-le : (k m : ℕ) (f : ℕ → ℕ) → ((i : ℕ) → i < k → f i ≤ m) → total k f ≤ k * m
+pub total-le : (k m : ℕ) (f : ℕ → ℕ) → ((i : ℕ) → i < k → f i ≤ m) → total k f ≤ k * m
 unfolding total
 total-le zero m f h = zero-le
 total-le (suc k) m f h = omega (arith, suc-mul k m, total-le k m f (λ i l. h i (omega arith)), h k (le-refl (suc k)))
 
-tally-le : (k : ℕ) (f : ℕ → Bool) → tally k f ≤ k
+pub tally-le : (k : ℕ) (f : ℕ → Bool) → tally k f ≤ k
 tally-le k f = omega (arith, total-le k 1 (λ i. digit (f i)) (λ i l. le-of-suc-le-suc (digit-lt (f i))))
+
+-- parts that are 0 add nothing
+pub total-none : (k : ℕ) (f : ℕ → ℕ) → ((i : ℕ) → f i ≡ 0) → total k f ≡ 0
+unfolding total
+total-none zero f h = refl
+total-none (suc k) f h = omega (arith, total-none k f h, h k)
+
+pub total-cut : (w k : ℕ) (f : ℕ → ℕ) → w ≤ k → ((i : ℕ) → w ≤ i → f i ≡ 0) → total k f ≡ total w f
+unfolding total
+total-cut zero zero f le h = refl
+total-cut (suc w) zero f le h = absurd (not-suc-le-zero le)
+total-cut w (suc k) f le h =
+    ⊎-elim (λ e. ap (λ (n : ℕ). total n f) (sym e))
+    (λ l. let s : w ≤ k = le-of-suc-le-suc l in omega (arith, total-cut w k f s h, h k s))
+    (eq-or-lt-of-le le)
 
 -- a sum of no larger parts is no larger
 total-mono : (k : ℕ) (f g : ℕ → ℕ) → ((i : ℕ) → i < k → f i ≤ g i) → total k f ≤ total k g
@@ -57,6 +72,15 @@ module _ (k : ℕ) (f g : ℕ → Bool) (h : (i : ℕ) → f i ≡ true → g i 
   pub tally-less : (j : ℕ) → j < k → f j ≡ false → g j ≡ true → tally k f < tally k g
   tally-less j l e y =
       total-less k (λ i. digit (f i)) (λ i. digit (g i)) (λ i m. digit-mono (f i) (g i) (h i)) j l (digit-less (f j) (g j) e y)
+
+tally-all : (k : ℕ) → tally k (λ i. true) ≡ k
+unfolding total
+tally-all zero = refl
+tally-all (suc k) = omega (arith, tally-all k)
+
+-- where one of k is missing, fewer than k are there
+pub tally-missing : (k : ℕ) (f : ℕ → Bool) (j : ℕ) → j < k → f j ≡ false → tally k f < k
+tally-missing k f j l e = omega (arith, tally-less k f (λ i. true) (λ i h. refl) j l e refl, tally-all k)
 
 -- ---- the set bits of a number
 
