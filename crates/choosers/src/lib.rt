@@ -1,0 +1,1 @@
+// Choosers: pairs chosen from the table alone, never from the circuit.
