@@ -1,1 +1,5 @@
+pub mod YesPairs
 pub mod BestPairs
+pub mod GreedyRounds
+pub mod Underway
+pub mod Settling

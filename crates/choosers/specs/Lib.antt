@@ -1,1 +1,3 @@
 pub mod Trying
+pub mod Greedy
+pub mod Results

@@ -1,0 +1,179 @@
+// The greedy choice: in each round every yes pair is tried, and the one with the highest score is accepted.
+use crate::answers::Choice;
+use crate::answers::Chosen;
+use crate::answers::Pair;
+use crate::answers::PairList;
+use crate::answers::Rounds;
+use records::Wire;
+use table::Counted;
+use table::Table;
+use table::count;
+use table::offer;
+use table::score;
+ghost use mathlib.Core.Path.{_≡_};
+ghost use mathlib.Core.Bool.{false};
+ghost use Prim.Native.Nat.{_+_, _<_};
+ghost use Rattle.basics.specs.Outcome.{beside};
+ghost use Rattle.table.specs.Marks.{counts};
+ghost use Rattle.table.specs.Calls.{wrongWidth, countOf};
+ghost use Rattle.choosers.specs.Trying.{better, tryPair, tryTakers, tryLenders, scoreIn, bestPair};
+ghost use Rattle.choosers.specs.Greedy.{greedyFrom, ended};
+ghost use Rattle.choosers.specs.Results.{mostPairs, trialsLimit, bestSaid, triedOf, stored, roundAfter, handedBack, greedyOf, settled};
+
+// A pair that was tried, and its score.
+struct Tried {
+    pair: Pair,
+    score: u32,
+}
+
+// The best pair tried so far.
+enum Best {
+    Nothing,
+    Found(Tried),
+}
+
+// The highest score wins, and on a tie the pair that was tried before.
+fn better_of(best: Best, new: Tried) -> Best
+    ensures { λ r. ⌜ bestSaid r ≡ better (bestSaid best) (triedOf new) ⌝ }
+{
+    match best {
+        Best::Nothing => Best::Found(new),
+        Best::Found(old) => {
+            if old.score < new.score {
+                Best::Found(new)
+            } else {
+                Best::Found(old)
+            }
+        }
+    }
+}
+
+// Tries one pair, if its mark is yes.
+fn try_pair(table: Table, lender: Wire, taker: Wire, best: Best) -> Best
+    requires { ⌜ wrongWidth table ≡ false ⌝ }
+    ensures { λ r. ⌜ bestSaid r ≡ tryPair (counts table) (scoreIn table) (lender .0) (taker .0) (bestSaid best) ⌝ }
+{
+    let counted = score(table, lender, taker);
+    match counted {
+        Counted::Marks(score) => better_of(
+            best,
+            Tried {
+                pair: Pair { lender, taker },
+                score,
+            },
+        ),
+        Counted::Refused(_) => best,
+    }
+}
+
+// Tries the takers of one lender, rising.
+fn try_takers(table: Table, lender: Wire, best: Best) -> Best
+    requires { ⌜ wrongWidth table ≡ false ⌝ }
+    ensures { λ r. ⌜ bestSaid r ≡ tryTakers (counts table) (scoreIn table) (lender .0) (table .width) (bestSaid best) ⌝ }
+{
+    let mut now = best;
+    let mut taker: u8 = 0;
+    while taker < table.width {
+        now = try_pair(table, lender, Wire(taker), now);
+        taker += 1;
+    }
+    now
+}
+
+// Tries every pair, by rising lender, then rising taker.
+fn try_pairs(table: Table) -> Best
+    requires { ⌜ wrongWidth table ≡ false ⌝ }
+    ensures { λ r. ⌜ bestSaid r ≡ tryLenders (counts table) (scoreIn table) (table .width) (table .width) ⌝ }
+{
+    let mut best = Best::Nothing;
+    let mut lender: u8 = 0;
+    while lender < table.width {
+        best = try_takers(table, Wire(lender), best);
+        lender += 1;
+    }
+    best
+}
+
+// One pair more.
+fn with_pair(list: PairList, pair: Pair) -> PairList
+    requires { ⌜ list .length < mostPairs ⌝ }
+    ensures { λ r. ⌜ r ≡ stored list pair ⌝ }
+{
+    let at = list.length;
+    let mut pairs = list.pairs;
+    pairs[at] = pair;
+    PairList {
+        pairs,
+        length: at + 1,
+    }
+}
+
+// The yes marks at a round's start: so many pairs are tried in it.
+fn yes_marks(table: Table) -> u32
+    ensures { λ r. ⌜ r ≡ beside 0 (countOf table) ⌝ }
+{
+    count(table).number()
+}
+
+// One round: the best pair is accepted.
+fn round(rounds: Rounds, marks: u32) -> Rounds
+    requires { ⌜ wrongWidth (rounds .table) ≡ false ⌝ }
+    requires { ⌜ rounds .list .length < mostPairs ⌝ }
+    requires { ⌜ rounds .trials + marks < trialsLimit ⌝ }
+    ensures { λ r. ⌜ r ≡ roundAfter rounds marks (bestPair (rounds .table)) ⌝ }
+{
+    let table = rounds.table;
+    let best = try_pairs(table);
+    match best {
+        Best::Nothing => rounds,
+        Best::Found(tried) => {
+            let offered = offer(table, tried.pair.lender, tried.pair.taker);
+            let list = with_pair(rounds.list, tried.pair);
+            let after = offered.table;
+            Rounds {
+                list,
+                table: after,
+                trials: rounds.trials + marks,
+            }
+        }
+    }
+}
+
+// Rounds until no yes is left.
+fn all_rounds(table: Table) -> Rounds
+    requires { ⌜ wrongWidth table ≡ false ⌝ }
+    ensures { λ r. ⌜ r ≡ handedBack (greedyFrom table) ⌝ }
+{
+    let mut rounds = Rounds {
+        list: PairList::empty(),
+        table,
+        trials: 0,
+    };
+    let mut marks = yes_marks(table);
+    while 0 < marks {
+        rounds = round(rounds, marks);
+        marks = yes_marks(rounds.table);
+    }
+    rounds
+}
+
+// Chooses pairs greedily from a table: the list, the table as the accepted offers leave it, and the number of trials.
+pub fn greedy(table: Table) -> Chosen
+    ensures { λ r. ⌜ (settled r ≡ greedyOf table) × (r .rounds ≡ beside (handedBack (ended table)) (greedyOf table)) ⌝ }
+{
+    let counted = count(table);
+    match counted {
+        Counted::Marks(_) => Chosen {
+            choice: Choice::Made,
+            rounds: all_rounds(table),
+        },
+        Counted::Refused(refusal) => Chosen {
+            choice: Choice::Refused(refusal),
+            rounds: Rounds {
+                list: PairList::empty(),
+                table,
+                trials: 0,
+            },
+        },
+    }
+}
