@@ -3,3 +3,4 @@ pub mod BestPairs
 pub mod GreedyRounds
 pub mod Underway
 pub mod Settling
+pub mod Endings

@@ -1,3 +1,4 @@
 pub mod Trying
 pub mod Greedy
 pub mod Results
+pub mod GrownTables
