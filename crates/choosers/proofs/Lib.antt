@@ -4,3 +4,4 @@ pub mod GreedyRounds
 pub mod Underway
 pub mod Settling
 pub mod Endings
+pub mod WorkedB
