@@ -4,7 +4,7 @@ use Prim.Native.Nat.{ℕ, zero, suc, _+_, _*_, _-_, _≤_}
 use mathlib.Core.Path.{_≡_, refl, sym, ap, subst, _∙_}
 use mathlib.Core.Logic.{inl, inr}
 use mathlib.Core.Bool.{Bool, true, false}
-use mathlib.Core.List.{List, [], _∷_, reverseAux}
+use mathlib.Core.List.{List, [], _∷_, reverse, reverseAux}
 use native.Mathlib.Nat.{mul-le-mul-right, mul-comm}
 use native.Mathlib.Omega.{arith}
 use lib.ListN.{length, length-reverseAux}
@@ -14,7 +14,7 @@ use Rattle.bits.proofs.Sums.{total-cut}
 use Rattle.orders.specs.Indices.{from}
 use Rattle.orders.specs.Runs.{Circuit, Lawful, Pair}
 use Rattle.orders.specs.Table as orders
-use Rattle.orders.specs.Rounds.{Chooses, rounds, NoneLeft, Ended, total, rowCount, yesCount}
+use Rattle.orders.specs.Rounds.{Chooses, rounds, NoneLeft, Maximal, Ended, total, rowCount, yesCount}
 use Rattle.orders.proofs.Rounds.{rounds-none, rounds-some, rounds-end, rounds-grown}
 use Rattle.table.specs.Limits.{mostWires}
 use Rattle.table.specs.Marks.{counts, marksOf}
@@ -26,6 +26,7 @@ use Rattle.choosers.specs.Greedy.{Choosing, greedyRounds, greedyFrom, af
 use Rattle.choosers.specs.GrownTables.{asMarks, stateOf, greedyRule, GrownFrom}
 use Rattle.choosers.proofs.YesPairs.{counts-within, far-lender, far-taker, fits, yes-updated}
 use Rattle.choosers.proofs.BestPairs.{best-found, best-none, best-same}
+use Rattle.choosers.proofs.TurnedLists.{reverse-twice, maximal-turned}
 use Rattle.choosers.proofs.GreedyRounds.{best-is, none-left, chosen, rounds-over, rounds-go-on, still-right, trials-few}
 
 -- the rule of the best pair picks only yes pairs, and none only where no yes is left
@@ -156,3 +157,9 @@ module _ (C : Circuit) (law : Lawful C) (t : Table) (ps : List Pair) (h : GrownF
       let few : length (greedyFrom t .pairs) ≤ n - 1 = omega (arith, greedy-ended .few, length-reverseAux (greedyFrom t .pairs) ps) in
       let all = subst (λ (w : ℕ). greedyFrom t .trials ≤ length (greedyFrom t .pairs) * (w * (w - 1))) (h .wires) (trials-few (marksOf t) t (h .right)) in
       omega (arith, all, mul-le-mul-right (n * (n - 1)) few, mul-comm (n - 1) (n * (n - 1)))
+
+-- THEOREM: no pair can be added to the list that greedy chooses from a circuit's table.
+pub greedy-maximal : (C : Circuit) → Lawful C → (t : Table) → GrownFrom C t [] → Maximal C (greedyFrom t .pairs)
+greedy-maximal C law t h =
+    subst (λ (ps : List Pair). Maximal C ps) (reverse-twice (greedyFrom t .pairs))
+    (maximal-turned C (reverse (greedyFrom t .pairs)) (greedy-ended C law t [] h .maximal))
