@@ -1,0 +1,43 @@
+-- The greedy choice handed back as 60 records, with the number of trials and of pairs.
+use Prim.Native.Nat.{ℕ, _+_, _*_, _≤_}
+use mathlib.Core.Path.{_≡_}
+use mathlib.Core.List.{List, [], _∷_, _++_}
+use lib.ListN.{length, take}
+use Rattle.basics.specs.Outcome.{Outcome, done, refused, handing}
+use Rattle.writing.specs.Writing.{fitted, holding}
+use Rattle.records.specs.Bytes.{recordBytes}
+use Rattle.records.specs.declared.instructions.Record.the-variants.{Reuse}
+use Rattle.choosers.specs.Results.{mostPairs}
+use Rattle.choosers.specs.declared.answers.Pair.{Pair}
+use Rattle.choosers.specs.declared.answers.PairList.{PairList}
+use Rattle.choosers.specs.declared.answers.Rounds.{Rounds}
+use Rattle.thaksipho.specs.Words.{word}
+
+-- the records of pairs, one after the other
+abbrev pub entriesBytes : List Pair → List ℕ
+entriesBytes [] = []
+entriesBytes (p ∷ ps) = recordBytes (Reuse (p .lender) (p .taker)) ++ entriesBytes ps
+
+-- the records of a list: its entries up to its length
+abbrev pub listBytes : PairList → List ℕ
+listBytes l = entriesBytes (take (l .length) (l .pairs))
+
+-- a list has room for its entries
+pub record Sized (l : PairList) : Type 0 where
+  pub few : l .length ≤ mostPairs
+  pub held : l .length ≤ length (l .pairs)
+
+-- the list's records, where there is room for them
+abbrev pub listWritten : ℕ → Outcome Rounds → Outcome (List ℕ)
+listWritten room (done r) = fitted room (listBytes (r .list))
+listWritten room (refused number place) = refused number place
+
+-- trials * 256 + pairs, where the list is written
+abbrev pub listValue : ℕ → Outcome Rounds → Outcome ℕ
+listValue room (done r) = handing (r .trials * 256 + r .list .length) (fitted room (listBytes (r .list)))
+listValue room (refused number place) = refused number place
+
+-- the call returns the value or its refusal as a word, and leaves the buffer so
+pub record Listed (old : List ℕ) (o : Outcome Rounds) (w : ℕ) (new : List ℕ) : Type 0 where
+  pub tells : w ≡ word (listValue (length old) o)
+  pub leaves : new ≡ holding old (listWritten (length old) o)
