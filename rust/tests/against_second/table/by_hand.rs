@@ -153,6 +153,24 @@ fn every_length_and_every_width() {
 }
 
 #[test]
+fn every_number_of_a_lender_and_of_a_taker() {
+    let mut seen = Seen::default();
+    for width in [1, 2, 31, 32] {
+        let full = table(width, &[!0; 32], 0, 0);
+        for number in 0..=u8::MAX {
+            for other in 0..=u8::MAX {
+                let yes = number != other && number < width && other < width;
+                assert_eq!(bytes::may(&full, Wire(number), Wire(other)), Ok(yes));
+            }
+            let pairs = [Pair::of(number, 0), Pair::of(0, number)];
+            compare_offers(&full, pairs, Table::LENGTH, &mut seen);
+        }
+    }
+    assert!(seen.accepted > 0);
+    assert_eq!(seen.numbers(), [20, 23]);
+}
+
+#[test]
 fn every_refusal_of_an_offer_comes_before_31() {
     let made_by_hand = table(3, &[0b110, 0b101, 0b000], 0b010, 0b100);
     let wrong_width = table(33, &[0b110, 0b101, 0b000], 0b010, 0b100);
