@@ -30,16 +30,22 @@ fn table_by_search(accepted: &Accepted) -> second::Table {
     }
 }
 
+/// The wires of a pair of the second program, in the words of the proved library: the lender and the
+/// taker.
+fn wires(pair: Pair) -> (Wire, Wire) {
+    (Wire(pair.lender.0), Wire(pair.taker.0))
+}
+
 /// Offers a pair to the proved library, with this much room, and looks at all that comes back: the
 /// expected table, or the expected refusal. It is taken exactly when the pair is yes, and its score
-/// is the count of the table after it, or the same refusal.
+/// is the count of the table after it, or the same refusal. Gives the answer.
 fn compare_offer(
     table: &[u8],
     pair: Pair,
     room: usize,
     expected: &Result<second::Table, second::Refusal>,
-) {
-    let (lender, taker) = (Wire(pair.lender.0), Wire(pair.taker.0));
+) -> Result<usize, Refusal> {
+    let (lender, taker) = wires(pair);
     let expected_bytes = match expected {
         Ok(after) => Ok(after.bytes()),
         Err(refusal) => Err(of_second(*refusal)),
@@ -47,7 +53,8 @@ fn compare_offer(
     let context = || format!("{pair:?} to {table:02x?}");
 
     let call = |out: &mut [u8]| bytes::offer(table, lender, taker, out);
-    if let Ok(written) = compare_writing(room, &expected_bytes, call) {
+    let answer = compare_writing(room, &expected_bytes, call);
+    if let Ok(written) = answer {
         assert_eq!(written, Table::LENGTH, "{}", context());
     }
 
@@ -75,6 +82,7 @@ fn compare_offer(
     );
     assert_eq!(thaksipho::score(&by_value, lender, taker), score);
     assert_eq!(thaksipho::may(&by_value, lender, taker), yes);
+    answer
 }
 
 /// Looks at the mark of every pair of numbers up to the width, and at the count.

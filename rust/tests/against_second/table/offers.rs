@@ -1,7 +1,7 @@
 //! Sequences of offers to the table of a circuit, each answer and the marks after it held against
 //! the search for a cycle.
 
-use super::{compare_every_mark, compare_offer, table_by_search, SPARE_ROOM};
+use super::{compare_every_mark, compare_offer, table_by_search, wires, SPARE_ROOM};
 use crate::comparison::{of_second, Seen};
 use crate::settings::count_and_source;
 use samples::circuits::{any_circuit, bare, joined, MOST_WIRES};
@@ -50,30 +50,26 @@ impl<'a> Both<'a> {
         sets
     }
 
-    /// Offers a pair to both, with more room than needed, just as much, and too little.
+    /// Offers a pair to both, with more room than needed, just as much, and too little. Whether it
+    /// is taken the search decides, and the whole table after it is what the rule gives on sets.
     fn offer(&mut self, pair: Pair, seen: &mut Seen) {
         let before = self.table;
-        let answer = self.accepted.offer(pair).map_err(of_second);
-        seen.note(&answer);
-        let (lender, taker) = (Wire(pair.lender.0), Wire(pair.taker.0));
-        let taken = offer(&before, lender, taker);
-        let context = || format!("{pair:?} after {:?}", self.accepted.pairs());
-        assert_eq!(taken.map(|_| ()), answer, "{}", context());
-        assert_eq!(
-            may(&before, lender, taker),
-            Ok(answer.is_ok()),
-            "{}",
-            context()
-        );
+        let by_rule = second::Table::from_bytes(before.as_bytes()).offer(pair);
+        let by_search = self.accepted.offer(pair).map_err(of_second);
+        for room in [Table::LENGTH + SPARE_ROOM, Table::LENGTH] {
+            let answer = compare_offer(before.as_bytes(), pair, room, &by_rule);
+            let expected = by_search.map(|()| Table::LENGTH);
+            assert_eq!(answer, expected, "then {:?}", self.accepted.pairs());
+        }
+        let too_little = Table::LENGTH - 1;
+        let answer = compare_offer(before.as_bytes(), pair, too_little, &by_rule);
+        assert!(answer.is_err());
 
-        // The whole table is what the rule gives on sets.
-        let expected = second::Table::from_bytes(before.as_bytes()).offer(pair);
-        for room in [Table::LENGTH + SPARE_ROOM, Table::LENGTH, Table::LENGTH - 1] {
-            compare_offer(before.as_bytes(), pair, room, &expected);
+        if by_search.is_ok() {
+            let (lender, taker) = wires(pair);
+            self.table = offer(&before, lender, taker).expect("the offer was taken");
         }
-        if let Ok(after) = taken {
-            self.table = after;
-        }
+        seen.note(&by_search);
     }
 
     /// Looks at marks of the table: all of a narrow one, some of a wider one.
@@ -89,13 +85,13 @@ impl<'a> Both<'a> {
         assert_eq!(count, Ok(sets.marks.len() as u32));
         for _ in 0..MARKS_LOOKED_AT {
             let pair = any_offer(random, &sets, 2);
-            let answer = may(&self.table, Wire(pair.lender.0), Wire(pair.taker.0));
-            let expected = self.accepted.judge(pair).is_ok();
+            let (lender, taker) = wires(pair);
+            let yes = self.accepted.judge(pair).is_ok();
+            let pairs = self.accepted.pairs();
             assert_eq!(
-                answer,
-                Ok(expected),
-                "{pair:?}, {:?}",
-                self.accepted.pairs()
+                may(&self.table, lender, taker),
+                Ok(yes),
+                "{pairs:?}, {pair:?}"
             );
         }
     }
@@ -103,13 +99,9 @@ impl<'a> Both<'a> {
 
 /// A pair to offer: once in some times one that is yes, if there is one, else any.
 fn any_offer(random: &mut Random, sets: &second::Table, times: usize) -> Pair {
-    if !sets.marks.is_empty() && random.once_in(times) {
-        let lot = random.below(sets.marks.len());
-        return *sets
-            .marks
-            .iter()
-            .nth(lot)
-            .expect("the lot is below the number of marks");
+    let yes: Vec<Pair> = sets.marks.iter().copied().collect();
+    if !yes.is_empty() && random.once_in(times) {
+        return random.one_of(&yes);
     }
     let (lender, taker) = any_pair(random, sets.width);
     Pair::of(lender, taker)
@@ -127,7 +119,7 @@ fn random_offers_to_random_circuits() {
         let mut both = Both::start(&input, &circuit);
         widths[usize::from(circuit.width)] += 1;
         both.compare_marks(&mut random);
-        for _ in 0..8 + 2 * usize::from(circuit.width) {
+        for _ in 0..8 + 3 * usize::from(circuit.width) {
             let pair = any_offer(&mut random, &both.sets(), 3);
             both.offer(pair, &mut seen);
             both.compare_marks(&mut random);
