@@ -34,11 +34,12 @@ pub fn of_second(refusal: second::Refusal) -> Refusal {
 
 /// Calls with a lent buffer of `room` bytes, and looks at the refusal and at the whole buffer: the
 /// expected bytes at its start, or where the room is too short 31 with the length needed; after a
-/// refusal nothing. Gives the call's answer.
+/// refusal nothing. Gives the call's answer. The context is told where they differ.
 pub fn compare_writing<T>(
     room: usize,
     expected: &Result<Vec<u8>, Refusal>,
     call: impl FnOnce(&mut [u8]) -> Result<T, Refusal>,
+    context: impl Fn() -> String,
 ) -> Result<T, Refusal> {
     let mut out = vec![UNTOUCHED; room + BEYOND];
     let mut expected_out = out.clone();
@@ -54,8 +55,9 @@ pub fn compare_writing<T>(
         }
         Err(refusal) => Some(*refusal),
     };
-    assert_eq!(answer.as_ref().err(), refusal.as_ref(), "{room} bytes");
-    assert_eq!(out, expected_out, "{room} bytes");
+    let context = || format!("{}, with room for {room} bytes", context());
+    assert_eq!(answer.as_ref().err(), refusal.as_ref(), "{}", context());
+    assert_eq!(out, expected_out, "{}", context());
     answer
 }
 

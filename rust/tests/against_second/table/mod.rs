@@ -10,7 +10,7 @@ use crate::comparison::{compare_writing, of_second};
 use samples::pairs::every_pair;
 use second::{Accepted, Pair};
 use std::collections::BTreeSet;
-use thaksipho::{bytes, Refusal, Table, Wire};
+use thaksipho::{bytes, may, offer, score, Refusal, Table, Wire};
 
 /// How much longer than a table the lent buffer is, so that bytes past the table are seen.
 const SPARE_ROOM: usize = 3;
@@ -46,42 +46,31 @@ fn compare_offer(
     expected: &Result<second::Table, second::Refusal>,
 ) -> Result<usize, Refusal> {
     let (lender, taker) = wires(pair);
-    let expected_bytes = match expected {
-        Ok(after) => Ok(after.bytes()),
-        Err(refusal) => Err(of_second(*refusal)),
-    };
     let context = || format!("{pair:?} to {table:02x?}");
+    let refused = |refusal: &second::Refusal| of_second(*refusal);
+    let after = expected.as_ref().map(second::Table::bytes).map_err(refused);
+    let count = |after: &second::Table| after.counting().len() as u32;
+    let left = expected.as_ref().map(count).map_err(refused);
+    // Only a wrong width is a refusal for `may` too.
+    let yes = match left {
+        Ok(_) => Ok(true),
+        Err(refusal) if refusal.number == 27 => Err(refusal),
+        Err(_) => Ok(false),
+    };
 
     let call = |out: &mut [u8]| bytes::offer(table, lender, taker, out);
-    let answer = compare_writing(room, &expected_bytes, call);
+    let answer = compare_writing(room, &after, call, context);
     if let Ok(written) = answer {
         assert_eq!(written, Table::LENGTH, "{}", context());
     }
-
-    let refusal = expected_bytes.as_ref().err().copied();
-    let score = match expected {
-        Ok(after) => after.count().map(|count| count as u32).map_err(of_second),
-        Err(refusal) => Err(of_second(*refusal)),
-    };
-    assert_eq!(bytes::score(table, lender, taker), score, "{}", context());
-
-    // Only a wrong width is a refusal for `may` too.
-    let yes = match refusal {
-        None => Ok(true),
-        Some(Refusal { number: 27, place }) => Err(Refusal { number: 27, place }),
-        Some(_) => Ok(false),
-    };
+    assert_eq!(bytes::score(table, lender, taker), left, "{}", context());
     assert_eq!(bytes::may(table, lender, taker), yes, "{}", context());
 
-    let by_value = Table::from_bytes(table);
-    assert_eq!(
-        thaksipho::offer(&by_value, lender, taker).map(|after| after.as_bytes().to_vec()),
-        expected_bytes,
-        "{}",
-        context()
-    );
-    assert_eq!(thaksipho::score(&by_value, lender, taker), score);
-    assert_eq!(thaksipho::may(&by_value, lender, taker), yes);
+    let table = Table::from_bytes(table);
+    let by_value = offer(&table, lender, taker).map(|after| after.as_bytes().to_vec());
+    assert_eq!(by_value, after, "{}", context());
+    assert_eq!(score(&table, lender, taker), left, "{}", context());
+    assert_eq!(may(&table, lender, taker), yes, "{}", context());
     answer
 }
 

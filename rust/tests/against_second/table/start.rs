@@ -7,6 +7,7 @@ use crate::settings::count_and_source;
 use samples::circuits::{any_circuit, bare, joined, MOST_WIRES};
 use samples::damage::{damaged_circuit, disordered_input};
 use samples::records::*;
+use samples::Random;
 use second::Accepted;
 use thaksipho::{bytes, count, read, start, Refusal, Table};
 
@@ -18,14 +19,16 @@ fn compare_start(input: &[u8], room: usize, seen: &mut Seen) {
     let by_search = second::read(input)
         .map(|circuit| table_by_search(&Accepted::none(&circuit)))
         .map_err(of_second);
-    let expected = by_search.as_ref().map(second::Table::bytes).map_err(|&r| r);
-    let answer = compare_writing(room, &expected, |out| bytes::start(input, out));
+    let expected = by_search.clone().map(|table| table.bytes());
+    let context = || format!("start of {input:02x?}");
+    let call = |out: &mut [u8]| bytes::start(input, out);
+    let answer = compare_writing(room, &expected, call, context);
     if let Ok(written) = answer {
-        assert_eq!(written, Table::LENGTH);
+        assert_eq!(written, Table::LENGTH, "{}", context());
     }
     let by_value = start(input).map(|table| table.as_bytes().to_vec());
-    assert_eq!(by_value, expected, "start of {input:02x?}");
-    assert_eq!(by_value.err(), read(input).err());
+    assert_eq!(by_value, expected, "{}", context());
+    assert_eq!(by_value.err(), read(input).err(), "{}", context());
     if let Ok(table) = &by_search {
         compare_every_mark(&table.bytes(), &table.marks, table.width);
     }
@@ -33,7 +36,7 @@ fn compare_start(input: &[u8], room: usize, seen: &mut Seen) {
 }
 
 /// More room than a table needs or just as much, and one time in four less.
-fn any_room(random: &mut samples::Random) -> usize {
+fn any_room(random: &mut Random) -> usize {
     match random.below(4) {
         0 => random.below(Table::LENGTH),
         1 => Table::LENGTH,
