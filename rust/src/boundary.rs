@@ -32,6 +32,12 @@ mod library {
         pub fn thaksipho_count(table: *const u8, table_length: usize) -> u64;
         pub fn thaksipho_score(table: *const u8, table_length: usize, lender: u8, taker: u8)
             -> u64;
+        pub fn thaksipho_greedy(
+            table: *const u8,
+            table_length: usize,
+            out: *mut u8,
+            out_length: usize,
+        ) -> u64;
     }
 }
 
@@ -74,4 +80,9 @@ pub(crate) fn count(table: &[u8]) -> u64 {
 pub(crate) fn score(table: &[u8], lender: u8, taker: u8) -> u64 {
     // SAFETY: as for `may`.
     unsafe { library::thaksipho_score(table.as_ptr(), table.len(), lender, taker) }
+}
+
+pub(crate) fn greedy(table: &[u8], out: &mut [u8]) -> u64 {
+    // SAFETY: as for `rewrite`.
+    unsafe { library::thaksipho_greedy(table.as_ptr(), table.len(), out.as_mut_ptr(), out.len()) }
 }

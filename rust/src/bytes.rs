@@ -42,3 +42,22 @@ pub fn count(table: &[u8]) -> Result<u32, Refusal> {
 pub fn score(table: &[u8], lender: Wire, taker: Wire) -> Result<u32, Refusal> {
     outcome(boundary::score(table, lender.0, taker.0))
 }
+
+/// How many pairs were chosen, and how many trials it took.
+#[derive(Clone, Copy, Debug, PartialEq, Eq)]
+pub struct Chosen {
+    /// How many pairs were chosen: each is a record of three bytes.
+    pub pairs: usize,
+    /// How many pairs were tried, over all rounds.
+    pub trials: u32,
+}
+
+/// Chooses pairs greedily and writes them as records of kind 60, in the order chosen: the kind, the
+/// lender, the taker. See [`crate::greedy`].
+pub fn greedy(table: &[u8], out: &mut [u8]) -> Result<Chosen, Refusal> {
+    let value = outcome(boundary::greedy(table, out))?;
+    Ok(Chosen {
+        pairs: (value % 256) as usize,
+        trials: value / 256,
+    })
+}

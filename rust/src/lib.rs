@@ -9,8 +9,10 @@
 
 mod boundary;
 pub mod bytes;
+mod greedy;
 mod table;
 
+pub use greedy::{greedy, Greedy, Pair};
 pub use table::{count, may, offer, score, start, Table, Wire};
 
 use std::error::Error;

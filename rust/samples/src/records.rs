@@ -49,3 +49,8 @@ pub fn pair_gate(kind: u8, first: u8, second: u8) -> Vec<u8> {
 pub fn turned_pair_gate(kind: u8, first: u8, second: u8, angle: Angle) -> Vec<u8> {
     [&[kind, first, second][..], &angle].concat()
 }
+
+/// A reuse pair, of pair lists only.
+pub fn reuse_pair(lender: u8, taker: u8) -> Vec<u8> {
+    vec![0x60, lender, taker]
+}

@@ -5,6 +5,7 @@
 mod comparison;
 mod document;
 mod exhaustive;
+mod greedy;
 mod limits;
 mod random;
 mod settings;
