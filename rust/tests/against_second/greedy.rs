@@ -32,14 +32,20 @@ fn compare_greedy(table: &[u8], seen: &mut Seen) -> Result<Greedy, Refusal> {
         trials: chosen.trials as u32,
     });
     let needed = records.as_ref().map_or(0, Vec::len);
+    let context = || format!("{table:02x?}");
     for room in [needed + SPARE_ROOM, needed] {
-        let answer = compare_writing(room, &records, |out| bytes::greedy(table, out));
+        let answer = compare_writing(room, &records, |out| bytes::greedy(table, out), context);
         assert_eq!(answer, counts, "{table:02x?}");
         seen.note(&answer);
     }
     if needed > 0 {
         let too_little = needed - 1;
-        let answer = compare_writing(too_little, &records, |out| bytes::greedy(table, out));
+        let answer = compare_writing(
+            too_little,
+            &records,
+            |out| bytes::greedy(table, out),
+            context,
+        );
         seen.note(&answer);
     }
 
