@@ -1,0 +1,60 @@
+-- Chains: which wires the pairs join, the first wire of each chain, and the qubit of each wire. The pairs are given as the lender of each
+-- taker; a number that is no wire's stands for nobody. Definitions alone.
+use Prim.Native.Nat.{ℕ, zero, suc, _+_}
+use mathlib.Core.Path.{_≡_}
+use mathlib.Core.Bool.{Bool, true, false, not}
+use mathlib.Core.List.{List, [], _∷_}
+use lib.ListN.{getD}
+use lib.Dec.{ltb}
+use Rattle.basics.specs.Choice.{pick}
+use Rattle.orders.specs.Indices.{In}
+use Rattle.orders.specs.Runs.{Pair}
+
+-- no wire's number
+abbrev pub nobody : ℕ
+nobody = 255
+
+-- the lender of a wire, or a number that is no wire's
+abbrev pub lenderOf : List ℕ → ℕ → ℕ
+lenderOf lenders t = getD lenders t nobody
+
+module _ (lenders : List ℕ) (width : ℕ) where
+  -- whether a wire takes from another: its lender is a wire
+  abbrev pub takes : ℕ → Bool
+  takes t = ltb (lenderOf lenders t) width
+
+  -- the pairs whose takers are the wires below k, and the pairs that the lenders say
+  unfoldable pub pairsBelow : ℕ → List Pair
+  pairsBelow zero = []
+  pairsBelow (suc k) = pick (takes k) ((lenderOf lenders k, k) ∷ pairsBelow k) (pairsBelow k)
+
+  abbrev pub pairsOf : List Pair
+  pairsOf = pairsBelow width
+
+  -- from a wire to its lender, at most `steps` times, until one takes from nobody
+  unfoldable pub firstFrom : ℕ → ℕ → ℕ
+  firstFrom zero x = x
+  firstFrom (suc steps) x = pick (takes x) (firstFrom steps (lenderOf lenders x)) x
+
+  -- the first wire of a wire's chain, the one that takes from nobody
+  abbrev pub firstOf : ℕ → ℕ
+  firstOf x = firstFrom width x
+
+  -- how many first wires are lower than k
+  unfoldable pub firstsBelow : ℕ → ℕ
+  firstsBelow zero = 0
+  firstsBelow (suc k) = firstsBelow k + pick (takes k) 0 1
+
+  -- chains are numbered from 0 by rising number of their first wire; that is the qubit of every wire in the chain
+  unfoldable pub qubitOf : ℕ → ℕ
+  qubitOf x = firstsBelow (firstOf x)
+
+  -- how many qubits there are: one for each chain
+  abbrev pub qubits : ℕ
+  qubits = firstsBelow width
+
+-- the pairs join x and y: they are the same, or a pair joins x to one that is joined to y
+pub data Joined (ps : List Pair) : ℕ → ℕ → Type 0 where
+  same : {x : ℕ} → Joined ps x x
+  lends : {x y z : ℕ} → In (x, y) ps → Joined ps y z → Joined ps x z
+  takes-from : {x y z : ℕ} → In (y, x) ps → Joined ps y z → Joined ps x z

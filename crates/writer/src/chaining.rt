@@ -1,0 +1,36 @@
+// Chains: the first wire of a wire's chain, and how many chains begin below a wire.
+use crate::lending::Lenders;
+use records::Wire;
+ghost use mathlib.Core.Path.{_≡_};
+ghost use Rattle.writer.specs.Chains.{firstOf, firstsBelow};
+
+// The first wire of a wire's chain.
+pub fn first_of(lenders: Lenders, width: u8, wire: Wire) -> Wire
+    ensures { λ r. ⌜ r .0 ≡ firstOf (lenders .lenders) width (wire .0) ⌝ }
+{
+    let mut first = wire.0;
+    let mut left = width;
+    while 0 < left {
+        if !lenders.takes(width, Wire(first)) {
+            return Wire(first);
+        }
+        first = lenders.lender_of(Wire(first)).0;
+        left -= 1;
+    }
+    Wire(first)
+}
+
+// How many first wires are lower than a wire.
+pub fn firsts_below(lenders: Lenders, width: u8, wire: Wire) -> u8
+    ensures { λ r. ⌜ r ≡ firstsBelow (lenders .lenders) width (wire .0) ⌝ }
+{
+    let mut count: u8 = 0;
+    let mut x: u8 = 0;
+    while x < wire.0 {
+        if !lenders.takes(width, Wire(x)) {
+            count += 1;
+        }
+        x += 1;
+    }
+    count
+}

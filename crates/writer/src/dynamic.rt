@@ -1,0 +1,81 @@
+// The dynamic circuit written: its 02 record, then the instructions in the order of document 01, renamed.
+use crate::chaining::firsts_below;
+use crate::choosing::choose;
+use crate::choosing::of_wire;
+use crate::lending::Lenders;
+use crate::renaming::Renaming;
+use crate::seeking::advance;
+use crate::seeking::start;
+use crate::seeking::wires_of;
+use circuits::Circuit;
+use circuits::Found;
+use circuits::step_at;
+use records::Record;
+use records::Wire;
+use records::write_record;
+ghost use mathlib.Core.Path.{_≡_};
+ghost use Prim.Native.Nat.{ℕ, _+_, _≤_, _<_};
+ghost use lib.ListN.{getD, length};
+ghost use Rattle.basics.specs.Outcome.{done};
+ghost use Rattle.writing.specs.Writing.{Wrote};
+ghost use Rattle.circuits.specs.Limits.{mostWires};
+ghost use Rattle.circuits.specs.Reading.{readCircuit, summary};
+ghost use Rattle.circuits.specs.Validity.{stepsBytes};
+ghost use Rattle.writer.specs.Chains.{qubitOf};
+ghost use Rattle.writer.specs.Outputs.{outputOf, dynamicIn};
+ghost use Rattle.writer.specs.Heads.{Started};
+
+// Writes the instructions in their order from a place of the buffer on, and gives the place after them.
+fn write_steps(
+    circuit: &[u8],
+    valid: Circuit,
+    lenders: Lenders,
+    renaming: Renaming,
+    indices: &mut [usize; Circuit::MOST_WIRES],
+    places: &mut [usize; Circuit::MOST_WIRES],
+    out: &mut [u8],
+    from: usize,
+) -> usize
+    requires { ⌜ summary (readCircuit (now circuit)) ≡ done valid ⌝ }
+    requires { ⌜ (x : ℕ) → x < mostWires → getD (renaming .qubits) x 0 ≡ qubitOf (lenders .lenders) (valid .width) x ⌝ }
+    requires { ⌜ Started (now circuit) (valid .width) (now indices) (now places) ⌝ }
+    requires { ⌜ from + length (stepsBytes (dynamicIn (lenders .lenders) (readCircuit (now circuit)))) ≤ length (now out) ⌝ }
+    ensures { λ r. ⌜ Wrote (now (out .entry)) from (stepsBytes (dynamicIn (lenders .lenders) (readCircuit (now (circuit .entry))))) (now (out .exit)) r ⌝ }
+{
+    let mut to = from;
+    let mut left = valid.instructions;
+    while 0 < left {
+        let wire = choose(circuit, lenders, valid, indices, places);
+        if valid.width <= wire {
+            return to;
+        }
+        let index = of_wire(indices, Wire(wire));
+        let place = of_wire(places, Wire(wire));
+        match step_at(circuit, place, Circuit::MOST_INSTRUCTIONS - index) {
+            Found::End => return to,
+            Found::Refused(_) => return to,
+            Found::Step { instruction, next } => {
+                to = write_record(Record::Step(renaming.rename(instruction)), out, to);
+                advance(circuit, wires_of(instruction), index + 1, next, indices, places);
+                left -= 1;
+            }
+        }
+    }
+    to
+}
+
+// Writes the dynamic circuit of a valid circuit from the start of the buffer, and gives the place after it.
+fn write_dynamic(circuit: &[u8], valid: Circuit, lenders: Lenders, out: &mut [u8]) -> usize
+    requires { ⌜ summary (readCircuit (now circuit)) ≡ done valid ⌝ }
+    requires { ⌜ length (outputOf (lenders .lenders) (readCircuit (now circuit))) ≤ length (now out) ⌝ }
+    ensures { λ r. ⌜ Wrote (now (out .entry)) 0 (outputOf (lenders .lenders) (readCircuit (now (circuit .entry)))) (now (out .exit)) r ⌝ }
+{
+    let width = valid.width;
+    let mut indices = [0usize; Circuit::MOST_WIRES];
+    let mut places = [0usize; Circuit::MOST_WIRES];
+    start(circuit, width, &mut indices, &mut places);
+    let renaming = Renaming::by_chain(lenders, width);
+    let qubits = firsts_below(lenders, width, Wire(width));
+    let from = write_record(Record::DynamicWidth(qubits, width), out, 0);
+    write_steps(circuit, valid, lenders, renaming, &mut indices, &mut places, out, from)
+}

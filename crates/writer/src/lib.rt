@@ -1,0 +1,9 @@
+// The dynamic circuit: chains of wires, the qubit of each wire, and the instructions in the one order of document 01.
+mod chaining;
+mod choosing;
+mod dynamic;
+pub mod lending;
+mod renaming;
+mod seeking;
+
+pub use lending::Lenders;
