@@ -40,10 +40,14 @@ module _ (lenders : List ℕ) (width : ℕ) where
   abbrev pub firstOf : ℕ → ℕ
   firstOf x = firstFrom width x
 
+  -- 1 where a chain begins at a wire: it takes from nobody
+  abbrev pub begins : ℕ → ℕ
+  begins x = pick (takes x) 0 1
+
   -- how many first wires are lower than k
   unfoldable pub firstsBelow : ℕ → ℕ
   firstsBelow zero = 0
-  firstsBelow (suc k) = firstsBelow k + pick (takes k) 0 1
+  firstsBelow (suc k) = firstsBelow k + begins k
 
   -- chains are numbered from 0 by rising number of their first wire; that is the qubit of every wire in the chain
   unfoldable pub qubitOf : ℕ → ℕ

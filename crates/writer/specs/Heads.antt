@@ -51,6 +51,7 @@ stepsIn s = stepsOf (readCircuit s)
 -- from a place on stand the instructions from an index on
 pub record Stands (s : List ℕ) (index place : ℕ) : Type 0 where
   pub inside : index ≤ length (stepsIn s)
+  pub few : index ≤ mostInstructions
   pub steps : Steps s place (mostInstructions - index) (drop index (stepsIn s))
 
 -- an index is that of the first instruction on a wire from another on; the number of instructions where there is none
@@ -90,8 +91,10 @@ pub record Started (s : List ℕ) (width : ℕ) (indices places : List ℕ) : Ty
   pub heads : (x : ℕ) → x < width → NextAt s x 0 (getD indices x 0) (getD places x 0)
 
 -- each wire's head stands at its place
-abbrev pub HeadsStand : List ℕ → ℕ → List ℕ → List ℕ → Type 0
-HeadsStand s width indices places = (x : ℕ) → x < width → Stands s (getD indices x 0) (getD places x 0)
+pub record HeadsStand (s : List ℕ) (width : ℕ) (indices places : List ℕ) : Type 0 where
+  pub sized-indices : length indices ≡ mostWires
+  pub sized-places : length places ≡ mostWires
+  pub heads : (x : ℕ) → x < width → Stands s (getD indices x 0) (getD places x 0)
 
 -- ## What may be written
 
@@ -119,3 +122,7 @@ module _ (lenders indices : List ℕ) (c : Circuit) where
 pub record Chosen (c : Circuit) (may : ℕ → Bool) (indices : List ℕ) (tried best lowest : ℕ) : Type 0 where
   pub either : ((best ≡ c .width) × (lowest ≡ c .instructions)) ⊎ ((best < c .width) × (may best ≡ true) × (getD indices best 0 ≡ lowest))
   pub least : (x : ℕ) → x < tried → may x ≡ true → lowest ≤ getD indices x 0
+
+-- the wire with the least head of all that may be written
+abbrev pub Chooses : Circuit → (ℕ → Bool) → List ℕ → ℕ → Type 0
+Chooses c may indices best = (lowest : ℕ) × Chosen c may indices (c .width) best lowest

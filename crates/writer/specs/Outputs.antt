@@ -1,8 +1,9 @@
 -- The dynamic circuit: the instructions in the order of writing, renamed, behind their 02 record. Definitions alone.
-use Prim.Native.Nat.{ℕ}
+use Prim.Native.Nat.{ℕ, _<_}
+use mathlib.Core.Path.{_≡_}
 use mathlib.Core.List.{List, [], _∷_, _++_}
 use mathlib.Core.Option.{Option, none, some}
-use lib.ListN.{getElem?}
+use lib.ListN.{getD, getElem?}
 use Rattle.basics.specs.Outcome.{Outcome, done, refused}
 use Rattle.orders.specs.Schedule.{schedule}
 use Rattle.records.specs.Records.{line}
@@ -11,6 +12,7 @@ use Rattle.records.specs.declared.numbers.Line.{Line}
 use Rattle.records.specs.declared.instructions.Instruction.{Instruction}
 use Rattle.records.specs.declared.instructions.Instruction.the-variants.{Reset, Measurement, Gate, AngledGate, TwoLineGate, AngledTwoLineGate}
 use Rattle.records.specs.declared.instructions.Record.the-variants.{DynamicWidth}
+use Rattle.circuits.specs.Limits.{mostWires}
 use Rattle.circuits.specs.Reading.{Static}
 use Rattle.circuits.specs.Validity.{stepsBytes}
 use Rattle.precedence.specs.Precedence.{circuitOf}
@@ -28,6 +30,10 @@ renamed q (Gate k l) = Gate k (renumbered q l)
 renamed q (AngledGate k l a) = AngledGate k (renumbered q l) a
 renamed q (TwoLineGate k l m) = TwoLineGate k (renumbered q l) (renumbered q m)
 renamed q (AngledTwoLineGate k l m a) = AngledTwoLineGate k (renumbered q l) (renumbered q m) a
+
+-- the numbers are the qubits of the wires, one after the other
+abbrev pub Renames : List ℕ → ℕ → List ℕ → Type 0
+Renames lenders width numbers = (x : ℕ) → x < mostWires → getD numbers x 0 ≡ qubitOf lenders width x
 
 -- an instruction, where there is one, renamed before others
 abbrev pub leading : (ℕ → ℕ) → Option Instruction → List Instruction → List Instruction

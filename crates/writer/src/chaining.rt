@@ -2,7 +2,7 @@
 use crate::lending::Lenders;
 use records::Wire;
 ghost use mathlib.Core.Path.{_≡_};
-ghost use Rattle.writer.specs.Chains.{firstOf, firstsBelow};
+ghost use Rattle.writer.specs.Chains.{firstOf, begins, firstsBelow};
 
 // The first wire of a wire's chain.
 pub fn first_of(lenders: Lenders, width: u8, wire: Wire) -> Wire
@@ -11,13 +11,21 @@ pub fn first_of(lenders: Lenders, width: u8, wire: Wire) -> Wire
     let mut first = wire.0;
     let mut left = width;
     while 0 < left {
-        if !lenders.takes(width, Wire(first)) {
+        if lenders.takes(width, Wire(first)) {
+            first = lenders.lender_of(Wire(first)).0;
+            left -= 1;
+        } else {
             return Wire(first);
         }
-        first = lenders.lender_of(Wire(first)).0;
-        left -= 1;
     }
     Wire(first)
+}
+
+// 1 where a chain begins at a wire, else 0.
+fn begins(lenders: Lenders, width: u8, wire: Wire) -> u8
+    ensures { λ r. ⌜ r ≡ begins (lenders .lenders) width (wire .0) ⌝ }
+{
+    if lenders.takes(width, wire) { 0 } else { 1 }
 }
 
 // How many first wires are lower than a wire.
@@ -27,9 +35,7 @@ pub fn firsts_below(lenders: Lenders, width: u8, wire: Wire) -> u8
     let mut count: u8 = 0;
     let mut x: u8 = 0;
     while x < wire.0 {
-        if !lenders.takes(width, Wire(x)) {
-            count += 1;
-        }
+        count += begins(lenders, width, Wire(x));
         x += 1;
     }
     count

@@ -7,13 +7,13 @@ use circuits::Found;
 use circuits::step_at;
 use records::Wire;
 ghost use mathlib.Core.Path.{_≡_};
-ghost use Prim.Native.Nat.{ℕ, _≤_};
 ghost use lib.ListN.{getD, length};
 ghost use Rattle.circuits.specs.Limits.{mostWires};
-ghost use Rattle.writer.specs.Heads.{stepsIn, Stands, HeadsStand, isFree, mayWrite, candidate, Chosen};
+ghost use Rattle.writer.specs.Heads.{stepsIn, Stands, HeadsStand, isFree, mayWrite, candidate, Chooses};
 
 // What is kept of a wire; 0 past the last wire.
 pub fn of_wire(kept: &[usize; Circuit::MOST_WIRES], wire: Wire) -> usize
+    requires { ⌜ length (now kept) ≡ mostWires ⌝ }
     ensures { λ r. ⌜ r ≡ getD (now (kept .entry)) (wire .0) 0 ⌝ }
 {
     let n = wire.0 as usize;
@@ -30,6 +30,7 @@ fn is_free(
     indices: &[usize; Circuit::MOST_WIRES],
     wire: Wire,
 ) -> bool
+    requires { ⌜ length (now indices) ≡ mostWires ⌝ }
     ensures { λ r. ⌜ r ≡ isFree (lenders .lenders) (now (indices .entry)) valid (wire .0) ⌝ }
 {
     if lenders.takes(valid.width, wire) {
@@ -46,6 +47,7 @@ fn may_write(
     index: usize,
     touched: Touched,
 ) -> bool
+    requires { ⌜ length (now indices) ≡ mostWires ⌝ }
     ensures { λ r. ⌜ r ≡ mayWrite (lenders .lenders) (now (indices .entry)) valid index touched ⌝ }
 {
     match touched {
@@ -74,20 +76,23 @@ fn candidate(
     places: &[usize; Circuit::MOST_WIRES],
     wire: Wire,
 ) -> bool
+    requires { ⌜ length (now indices) ≡ mostWires ⌝ }
+    requires { ⌜ length (now places) ≡ mostWires ⌝ }
     requires { ⌜ Stands (now circuit) (getD (now indices) (wire .0) 0) (getD (now places) (wire .0) 0) ⌝ }
     ensures { λ r. ⌜ r ≡ candidate (lenders .lenders) (now (indices .entry)) valid (stepsIn (now (circuit .entry))) (wire .0) ⌝ }
 {
     let index = of_wire(indices, wire);
-    match step_at(circuit, of_wire(places, wire), Circuit::MOST_INSTRUCTIONS - index) {
+    match step_at(
+        circuit,
+        of_wire(places, wire),
+        Circuit::MOST_INSTRUCTIONS - index,
+    ) {
         Found::End => false,
         Found::Refused(_) => false,
-        Found::Step { instruction, next: _ } => may_write(
-            lenders,
-            valid,
-            indices,
-            index,
-            wires_of(instruction),
-        ),
+        Found::Step {
+            instruction,
+            next: _,
+        } => may_write(lenders, valid, indices, index, wires_of(instruction)),
     }
 }
 
@@ -100,8 +105,7 @@ pub fn choose(
     places: &[usize; Circuit::MOST_WIRES],
 ) -> u8
     requires { ⌜ HeadsStand (now circuit) (valid .width) (now indices) (now places) ⌝ }
-    requires { ⌜ length (stepsIn (now circuit)) ≡ valid .instructions ⌝ }
-    ensures { λ r. ⌜ (lowest : ℕ) × Chosen valid (candidate (lenders .lenders) (now (indices .entry)) valid (stepsIn (now (circuit .entry)))) (now (indices .entry)) (valid .width) r lowest ⌝ }
+    ensures { λ r. ⌜ Chooses valid (candidate (lenders .lenders) (now (indices .entry)) valid (stepsIn (now (circuit .entry)))) (now (indices .entry)) r ⌝ }
 {
     let mut best = valid.width;
     let mut lowest = valid.instructions;

@@ -14,15 +14,13 @@ use records::Record;
 use records::Wire;
 use records::write_record;
 ghost use mathlib.Core.Path.{_≡_};
-ghost use Prim.Native.Nat.{ℕ, _+_, _≤_, _<_};
-ghost use lib.ListN.{getD, length};
+ghost use Prim.Native.Nat.{_+_, _≤_};
+ghost use lib.ListN.{length};
 ghost use Rattle.basics.specs.Outcome.{done};
 ghost use Rattle.writing.specs.Writing.{Wrote};
-ghost use Rattle.circuits.specs.Limits.{mostWires};
 ghost use Rattle.circuits.specs.Reading.{readCircuit, summary};
 ghost use Rattle.circuits.specs.Validity.{stepsBytes};
-ghost use Rattle.writer.specs.Chains.{qubitOf};
-ghost use Rattle.writer.specs.Outputs.{outputOf, dynamicIn};
+ghost use Rattle.writer.specs.Outputs.{Renames, outputOf, dynamicIn};
 ghost use Rattle.writer.specs.Heads.{Started};
 
 // Writes the instructions in their order from a place of the buffer on, and gives the place after them.
@@ -37,7 +35,7 @@ fn write_steps(
     from: usize,
 ) -> usize
     requires { ⌜ summary (readCircuit (now circuit)) ≡ done valid ⌝ }
-    requires { ⌜ (x : ℕ) → x < mostWires → getD (renaming .qubits) x 0 ≡ qubitOf (lenders .lenders) (valid .width) x ⌝ }
+    requires { ⌜ Renames (lenders .lenders) (valid .width) (renaming .qubits) ⌝ }
     requires { ⌜ Started (now circuit) (valid .width) (now indices) (now places) ⌝ }
     requires { ⌜ from + length (stepsBytes (dynamicIn (lenders .lenders) (readCircuit (now circuit)))) ≤ length (now out) ⌝ }
     ensures { λ r. ⌜ Wrote (now (out .entry)) from (stepsBytes (dynamicIn (lenders .lenders) (readCircuit (now (circuit .entry))))) (now (out .exit)) r ⌝ }
@@ -56,7 +54,14 @@ fn write_steps(
             Found::Refused(_) => return to,
             Found::Step { instruction, next } => {
                 to = write_record(Record::Step(renaming.rename(instruction)), out, to);
-                advance(circuit, wires_of(instruction), index + 1, next, indices, places);
+                advance(
+                    circuit,
+                    wires_of(instruction),
+                    index + 1,
+                    next,
+                    indices,
+                    places,
+                );
                 left -= 1;
             }
         }
@@ -77,5 +82,14 @@ fn write_dynamic(circuit: &[u8], valid: Circuit, lenders: Lenders, out: &mut [u8
     let renaming = Renaming::by_chain(lenders, width);
     let qubits = firsts_below(lenders, width, Wire(width));
     let from = write_record(Record::DynamicWidth(qubits, width), out, 0);
-    write_steps(circuit, valid, lenders, renaming, &mut indices, &mut places, out, from)
+    write_steps(
+        circuit,
+        valid,
+        lenders,
+        renaming,
+        &mut indices,
+        &mut places,
+        out,
+        from,
+    )
 }

@@ -8,11 +8,9 @@ use records::Line;
 use records::Qubit;
 use records::Wire;
 ghost use mathlib.Core.Path.{_≡_};
-ghost use Prim.Native.Nat.{ℕ, _<_};
 ghost use lib.ListN.{getD};
-ghost use Rattle.circuits.specs.Limits.{mostWires};
 ghost use Rattle.writer.specs.Chains.{qubitOf};
-ghost use Rattle.writer.specs.Outputs.{renumbered, renamed};
+ghost use Rattle.writer.specs.Outputs.{renumbered, renamed, Renames};
 
 // The qubit of a wire: the number of its chain.
 fn qubit_of(lenders: Lenders, width: u8, wire: Wire) -> Qubit
@@ -29,7 +27,7 @@ pub struct Renaming {
 impl Renaming {
     // The renaming by chain.
     pub fn by_chain(lenders: Lenders, width: u8) -> Renaming
-        ensures { λ r. ⌜ (x : ℕ) → x < mostWires → getD (r .qubits) x 0 ≡ qubitOf (lenders .lenders) width x ⌝ }
+        ensures { λ r. ⌜ Renames (lenders .lenders) width (r .qubits) ⌝ }
     {
         let mut qubits = [0; Circuit::MOST_WIRES];
         let mut x: u8 = 0;
@@ -79,12 +77,13 @@ impl Renaming {
                 self.renumber(first),
                 self.renumber(second),
             ),
-            Instruction::AngledTwoLineGate(kind, first, second, angle) => Instruction::AngledTwoLineGate(
-                kind,
-                self.renumber(first),
-                self.renumber(second),
-                angle,
-            ),
+            Instruction::AngledTwoLineGate(kind, first, second, angle) =>
+                Instruction::AngledTwoLineGate(
+                    kind,
+                    self.renumber(first),
+                    self.renumber(second),
+                    angle,
+                ),
         }
     }
 }

@@ -129,6 +129,8 @@ pub fn start(
 )
     requires { ⌜ Stands (now circuit) 0 headerLength ⌝ }
     requires { ⌜ width ≤ mostWires ⌝ }
+    requires { ⌜ length (now indices) ≡ mostWires ⌝ }
+    requires { ⌜ length (now places) ≡ mostWires ⌝ }
     ensures { λ _. ⌜ Started (now (circuit .entry)) width (now (indices .exit)) (now (places .exit)) ⌝ }
 {
     let mut x: u8 = 0;

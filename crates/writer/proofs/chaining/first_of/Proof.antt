@@ -1,47 +1,42 @@
+-- `writer::chaining::first_of` meets its contract: what is left of the way from here ends where the whole way does. Assumes nothing.
+use Prim.Native.Nat.{ℕ}
+use mathlib.Core.Path.{_≡_, refl, sym, _∙_}
+use native.Mathlib.Omega.{arith}
+use borrow.Author.Needs.{needs}
+use Rattle.writer.specs.Chains.{firstFrom}
+use Rattle.writer.proofs.Chains.{first-here, first-on, first-end}
 use Rattle.writer.proofs.chaining.first_of.Statement.{statement}
 use Rattle.writer.proofs.chaining.first_of.Tie as tie
-use Rattle.writer.proofs.chaining.first_of.Reads as reads
-use Rattle.writer.proofs.chaining.first_of.Lts as lts
-use Rattle.writer.proofs.lending.Lenders.lender_of.Reads as lender-of-reads
-use Rattle.writer.proofs.lending.Lenders.takes.Reads as takes-reads
 
 abbrev Inv-loop : tie.InvT-loop
-Inv-loop lenders width first₀ left₀ first left = ?
+Inv-loop lenders width first₀ left₀ first left = firstFrom (lenders .lenders) width left first ≡ firstFrom (lenders .lenders) width left₀ first₀
 
 abbrev μ-loop : tie.MeasureT-loop
-μ-loop lenders width first₀ left₀ first left = ?
+μ-loop lenders width first₀ left₀ first left = left
 
--- src/chaining.rt:13:5
 loop-holds : tie.Need-loop-holds Inv-loop μ-loop
-loop-holds c = ?
+loop-holds c = refl
 
--- src/chaining.rt:14:13
 takes-requires : tie.Need-takes-requires Inv-loop μ-loop
-takes-requires c κs = ?
+takes-requires c κs = search needs
 
--- src/chaining.rt:15:13
-returns : tie.Need-returns Inv-loop μ-loop
-returns c = ?
-
--- src/chaining.rt:17:17
 lender-of-requires : tie.Need-lender-of-requires Inv-loop μ-loop
-lender-of-requires c κs = ?
+lender-of-requires c κs = search needs
 
--- src/chaining.rt:18:9
 sub-left : tie.Need-sub-left Inv-loop μ-loop
-sub-left c = ?
+sub-left c = search needs
 
--- src/chaining.rt:13:5
 loop-less : tie.Need-loop-less Inv-loop μ-loop
-loop-less c = ?
+loop-less c = search needs
 
--- src/chaining.rt:13:5
 loop-again : tie.Need-loop-again Inv-loop μ-loop
-loop-again c = ?
+loop-again c = first-on _ _ _ _ _ (search needs) (sym (c .before .before .takes .ensures) ∙ c .before .if1 .taken) (c .lender-of .ensures) ∙ c .before .before .before .before .loop .inv
 
--- src/chaining.rt:8:1
+returns : tie.Need-returns Inv-loop μ-loop
+returns c = sym (first-here _ _ _ _ (sym (c .before .takes .ensures) ∙ c .if1 .left)) ∙ c .before .before .before .loop .inv
+
 returns-2 : tie.Need-returns-2 Inv-loop μ-loop
-returns-2 c = ?
+returns-2 c = first-end _ _ _ _ (search needs) ∙ c .before .loop .inv
 
 pub first-of-spec : {M : Type 1} → statement M
 first-of-spec =
@@ -51,9 +46,9 @@ first-of-spec =
     μ-loop
     loop-holds
     takes-requires
-    returns
     lender-of-requires
     sub-left
     loop-less
     loop-again
+    returns
     returns-2)

@@ -1,60 +1,48 @@
+-- `writer::choosing::candidate` meets its contract: the head's instruction is the one at its place. Assumes nothing.
+use mathlib.Core.Path.{sym, ap, _∙_}
+use Rattle.circuits.specs.Stepping.{foundOf}
+use Rattle.writer.specs.Heads.{mayWrite}
+use Rattle.writer.proofs.Standing.{stands-faultless}
+use Rattle.writer.proofs.Candidates.{no-candidate, is-candidate}
 use borrow.Author.Needs.{needs}
 use Rattle.writer.proofs.choosing.candidate.Statement.{statement}
 use Rattle.writer.proofs.choosing.candidate.Tie as tie
-use Rattle.writer.proofs.choosing.candidate.Reads as reads
-use Rattle.writer.proofs.choosing.candidate.Lts as lts
-use Rattle.circuits.proofs.step_at.Reads as step-at-reads
-use Rattle.writer.proofs.choosing.may_write.Reads as may-write-reads
-use Rattle.writer.proofs.choosing.of_wire.Reads as of-wire-reads
-use Rattle.writer.proofs.seeking.wires_of.Reads as wires-of-reads
 
--- src/choosing.rt:80:9
 of-wire-requires : tie.Need-of-wire-requires
 of-wire-requires c κs = search needs
 
--- src/choosing.rt:81:28
 of-wire-requires-2 : tie.Need-of-wire-requires-2
 of-wire-requires-2 c κs = search needs
 
--- src/choosing.rt:81:51
 sub-step-at : tie.Need-sub-step-at
-sub-step-at c = ?
+sub-step-at c = search needs
 
--- src/choosing.rt:81:11
 step-at-requires : tie.Need-step-at-requires
 step-at-requires c κs = search needs
 
--- src/choosing.rt:82:23
 enum-told : tie.Need-enum-told
 enum-told c = search needs
 
--- src/choosing.rt:83:30
 enum-told-2 : tie.Need-enum-told-2
 enum-told-2 c = search needs
 
--- src/choosing.rt:84:23
 enum-known-instruction : tie.Need-enum-known-instruction
 enum-known-instruction c = search needs
 
--- src/choosing.rt:89:13
 wires-of-requires : tie.Need-wires-of-requires
 wires-of-requires c κs = search needs
 
--- src/choosing.rt:84:49
 may-write-requires : tie.Need-may-write-requires
 may-write-requires c κs = search needs
 
--- src/choosing.rt:69:1
 returns : tie.Need-returns
-returns c = ?
+returns c = no-candidate _ _ (c .before .before .before .before .before .before .args .places .now) _ _ _ (c .before .before .before .before .of-wire .ensures) (c .before .before .before .of-wire2 .ensures) (c .before .before .before .before .before .before .pre .1 .1) (sym (c .before .before .step-at .ensures) ∙ ap foundOf (c .enum-told .given .1))
 
--- src/choosing.rt:69:1
 returns-2 : tie.Need-returns-2
-returns-2 c = ?
+returns-2 c = absurd (stands-faultless _ _ _ (c .before .before .before .before .before .before .pre .1 .1) (rw (c .before .before .before .before .of-wire .ensures, c .before .before .before .of-wire2 .ensures) at (sym (c .before .before .step-at .ensures) ∙ ap foundOf (c .enum-told2 .given .1))))
 
--- src/choosing.rt:69:1
 returns-3 : tie.Need-returns-3
-returns-3 c = ?
+returns-3 c = is-candidate _ _ (c .before .before .before .before .before .before .before .before .before .args .places .now) _ _ _ (c .before .before .before .before .before .before .before .of-wire .ensures) (c .before .before .before .before .before .before .of-wire2 .ensures) (c .before .before .before .before .before .before .before .before .before .pre .1 .1) (sym (c .before .before .before .before .before .step-at .ensures) ∙ ap foundOf (c .before .before .before .instruction .given .1)) (c .may-write .ensures ∙ ap (λ t. mayWrite (c .before .before .before .before .before .before .before .before .before .args .lenders .lenders) (c .before .before .before .before .before .before .before .before .before .args .indices .now) (c .before .before .before .before .before .before .before .before .before .args .valid) (c .before .before .before .before .before .before .before .of-wire .result) t) (c .before .wires-of .ensures))
 
 pub candidate-spec : {M : Type 1} → statement M
 candidate-spec =

@@ -1,62 +1,49 @@
+-- `writer::choosing::may_write` meets its contract: its tests are the definition's. Assumes nothing.
+use mathlib.Core.Path.{_≡_, refl, sym, ap, _∙_}
+use lib.Dec.{eqb}
+use borrow.Author.Tests.{eq-eqb, ne-eqb}
 use borrow.Author.Needs.{needs}
 use Rattle.writer.proofs.choosing.may_write.Statement.{statement}
 use Rattle.writer.proofs.choosing.may_write.Tie as tie
-use Rattle.writer.proofs.choosing.may_write.Reads as reads
-use Rattle.writer.proofs.choosing.may_write.Lts as lts
-use Rattle.writer.proofs.choosing.is_free.Reads as is-free-reads
-use Rattle.writer.proofs.choosing.of_wire.Reads as of-wire-reads
 
--- src/choosing.rt:52:24
 enum-known-touched : tie.Need-enum-known-touched
 enum-known-touched c = search needs
 
--- src/choosing.rt:53:16
 of-wire-requires : tie.Need-of-wire-requires
 of-wire-requires c κs = search needs
 
--- src/choosing.rt:54:17
 is-free-requires : tie.Need-is-free-requires
 is-free-requires c κs = search needs
 
--- src/choosing.rt:54:17
 returns : tie.Need-returns
-returns c = ?
+returns c = rw (c .before .before .before .before .touched .given .1, eq-eqb _ _ (sym (c .before .before .of-wire .ensures) ∙ c .before .if1 .taken)) (c .is-free .ensures)
 
--- src/choosing.rt:58:22
 enum-known-touched-2 : tie.Need-enum-known-touched-2
 enum-known-touched-2 c = search needs
 
--- src/choosing.rt:58:31
 of-wire-requires-2 : tie.Need-of-wire-requires-2
 of-wire-requires-2 c κs = search needs
 
--- src/choosing.rt:59:22
 enum-known-touched-3 : tie.Need-enum-known-touched-3
 enum-known-touched-3 c = search needs
 
--- src/choosing.rt:60:16
 of-wire-requires-3 : tie.Need-of-wire-requires-3
 of-wire-requires-3 c κs = search needs
 
--- src/choosing.rt:61:24
 of-wire-requires-4 : tie.Need-of-wire-requires-4
 of-wire-requires-4 c κs = search needs
 
--- src/choosing.rt:61:17
 returns-2 : tie.Need-returns-2
-returns-2 c = ?
+returns-2 c = rw (c .before .before .before .before .touched3 .given .1, eq-eqb _ _ (sym (c .before .before .of-wire3 .ensures) ∙ c .before .if2 .taken), c .of-wire4 .ensures)
 
--- src/choosing.rt:42:1
 returns-3 : tie.Need-returns-3
-returns-3 c = ?
+returns-3 c = rw (c .before .before .before .touched .given .1, ne-eqb _ _ (λ e. c .if1 .left (c .before .of-wire .ensures ∙ e)))
 
--- src/choosing.rt:42:1
 returns-4 : tie.Need-returns-4
-returns-4 c = ?
+returns-4 c = rw (c .before .before .touched2 .given .1, c .of-wire2 .ensures)
 
--- src/choosing.rt:42:1
 returns-5 : tie.Need-returns-5
-returns-5 c = ?
+returns-5 c = rw (c .before .before .before .touched3 .given .1, ne-eqb _ _ (λ e. c .if2 .left (c .before .of-wire3 .ensures ∙ e)))
 
 pub may-write-spec : {M : Type 1} → statement M
 may-write-spec =

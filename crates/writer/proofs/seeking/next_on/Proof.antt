@@ -1,72 +1,65 @@
+-- `writer::seeking::next_on` meets its contract: up to here no instruction is on the wire. Assumes nothing.
+use Prim.Native.Nat.{ℕ, _-_}
+use mathlib.Core.Path.{sym, ap, _∙_}
+use native.Mathlib.Omega.{arith}
+use borrow.Author.Needs.{needs}
+use lib.ListN.{length}
+use Rattle.orders.specs.Indices.{stands}
+use Rattle.circuits.specs.Stepping.{foundOf}
+use Rattle.writer.specs.Heads.{wiresOf, stepsIn}
+use Rattle.writer.proofs.Standing.{Seeking, seek-start, seek-end, seek-found, seek-on, on-there, stands-next, stands-last, stands-faultless}
 use Rattle.writer.proofs.seeking.next_on.Statement.{statement}
 use Rattle.writer.proofs.seeking.next_on.Tie as tie
-use Rattle.writer.proofs.seeking.next_on.Reads as reads
-use Rattle.writer.proofs.seeking.next_on.Lts as lts
-use Rattle.circuits.proofs.step_at.Reads as step-at-reads
-use Rattle.writer.proofs.seeking.is_on.Reads as is-on-reads
-use Rattle.writer.proofs.seeking.wires_of.Reads as wires-of-reads
 
 abbrev Inv-loop : tie.InvT-loop
-Inv-loop circuit wire start from index₀ place₀ index place = ?
+Inv-loop circuit wire start from index₀ place₀ index place = Seeking circuit (wire .0) start index place
 
 abbrev μ-loop : tie.MeasureT-loop
-μ-loop circuit wire start from index₀ place₀ index place = ?
+μ-loop circuit wire start from index₀ place₀ index place = length (stepsIn circuit) - index
 
--- src/seeking.rt:66:5
 loop-holds : tie.Need-loop-holds Inv-loop μ-loop
-loop-holds c = ?
+loop-holds c = seek-start _ (c .before .pre)
 
--- src/seeking.rt:67:39
 sub-step-at : tie.Need-sub-step-at Inv-loop μ-loop
-sub-step-at c = ?
+sub-step-at c = c .loop .inv .stands .few
 
--- src/seeking.rt:67:15
 step-at-requires : tie.Need-step-at-requires Inv-loop μ-loop
-step-at-requires c κs = ?
+step-at-requires c κs = search needs
 
--- src/seeking.rt:68:27
 enum-told : tie.Need-enum-told Inv-loop μ-loop
-enum-told c = ?
+enum-told c = search needs
 
--- src/seeking.rt:68:27
 returns : tie.Need-returns Inv-loop μ-loop
-returns c = ?
+returns c = seek-end (c .before .before .before .loop .inv) (stands-last _ _ _ (c .before .before .before .loop .inv .stands) (sym (c .before .before .step-at .ensures) ∙ ap foundOf (c .enum-told .given .1)))
 
--- src/seeking.rt:69:34
 enum-told-2 : tie.Need-enum-told-2 Inv-loop μ-loop
-enum-told-2 c = ?
+enum-told-2 c = search needs
 
--- src/seeking.rt:69:34
 returns-2 : tie.Need-returns-2 Inv-loop μ-loop
-returns-2 c = ?
+returns-2 c = absurd (stands-faultless _ _ _ (c .before .before .before .loop .inv .stands) (sym (c .before .before .step-at .ensures) ∙ ap foundOf (c .enum-told2 .given .1)))
 
--- src/seeking.rt:70:27
 enum-known-instruction : tie.Need-enum-known-instruction Inv-loop μ-loop
-enum-known-instruction c = ?
+enum-known-instruction c = search needs
 
--- src/seeking.rt:71:26
 wires-of-requires : tie.Need-wires-of-requires Inv-loop μ-loop
-wires-of-requires c κs = ?
+wires-of-requires c κs = search needs
 
--- src/seeking.rt:71:20
 is-on-requires : tie.Need-is-on-requires Inv-loop μ-loop
-is-on-requires c κs = ?
+is-on-requires c κs = search needs
 
--- src/seeking.rt:72:21
 returns-3 : tie.Need-returns-3 Inv-loop μ-loop
-returns-3 c = ?
+returns-3 c = let f = stands-next _ _ _ (c .before .before .before .before .before .before .before .loop .inv .stands) (sym (c .before .before .before .before .before .before .step-at .ensures) ∙ ap foundOf (c .before .before .before .before .instruction .given .1)) in
+    seek-found (c .before .before .before .before .before .before .before .loop .inv) (on-there (c .before .before .before .before .before .before .before .loop .inv) f (c .before .is-on .ensures ∙ ap (λ t. stands (c .before .before .before .before .before .before .before .before .before .args .wire .0) (wiresOf t)) (c .before .before .wires-of .ensures)) ∙ c .if1 .taken)
 
--- src/seeking.rt:74:17
 add-index : tie.Need-add-index Inv-loop μ-loop
-add-index c = ?
+add-index c = let f = stands-next _ _ _ (c .before .before .before .before .before .before .before .loop .inv .stands) (sym (c .before .before .before .before .before .before .step-at .ensures) ∙ ap foundOf (c .before .before .before .before .instruction .given .1)) in omega (arith, f .behind .few)
 
--- src/seeking.rt:66:5
 loop-less : tie.Need-loop-less Inv-loop μ-loop
-loop-less c = ?
+loop-less c = let f = stands-next _ _ _ (c .before .before .before .before .before .before .before .loop .inv .stands) (sym (c .before .before .before .before .before .before .step-at .ensures) ∙ ap foundOf (c .before .before .before .before .instruction .given .1)) in omega (arith, f .below)
 
--- src/seeking.rt:66:5
 loop-again : tie.Need-loop-again Inv-loop μ-loop
-loop-again c = ?
+loop-again c = let f = stands-next _ _ _ (c .before .before .before .before .before .before .before .loop .inv .stands) (sym (c .before .before .before .before .before .before .step-at .ensures) ∙ ap foundOf (c .before .before .before .before .instruction .given .1)) in
+    seek-on (c .before .before .before .before .before .before .before .loop .inv) f (on-there (c .before .before .before .before .before .before .before .loop .inv) f (c .before .is-on .ensures ∙ ap (λ t. stands (c .before .before .before .before .before .before .before .before .before .args .wire .0) (wiresOf t)) (c .before .before .wires-of .ensures)) ∙ c .if1 .left)
 
 pub next-on-spec : {M : Type 1} → statement M
 next-on-spec =

@@ -1,24 +1,27 @@
+-- `writer::lending::Lenders::lender_of` meets its contract: past the last wire the list's default stands. Assumes nothing.
+use mathlib.Core.Path.{_≡_, sym}
+use native.Mathlib.Omega.{arith}
+use lib.ListN.{length, List·getD-eq-default}
+use mir.Syntax.{w8}
+use Rattle.basics.proofs.Arrays.{array-length}
+use Rattle.circuits.specs.Limits.{mostWires}
+use Rattle.writer.specs.Chains.{nobody}
+use Rattle.writer.proofs.Held.{getD-any}
 use borrow.Author.Needs.{needs}
 use Rattle.writer.proofs.lending.Lenders.lender_of.Statement.{statement}
 use Rattle.writer.proofs.lending.Lenders.lender_of.Tie as tie
-use Rattle.writer.proofs.lending.Lenders.lender_of.Reads as reads
-use Rattle.writer.proofs.lending.Lenders.lender_of.Lts as lts
 
--- src/lending.rt:31:17
 cast-n : tie.Need-cast-n
 cast-n c = search needs
 
--- src/lending.rt:33:25
 element-copy-out-t8 : tie.Need-element-copy-out-t8
 element-copy-out-t8 c = search needs
 
--- src/lending.rt:33:13
 returns : tie.Need-returns
-returns c = ?
+returns c = let size : length (c .before .before .before .args .t1 .lenders) ≡ mostWires = array-length w8 mostWires (c .before .before .before .args .t1 .lenders) _ (c .before .before .before .good .0 .1 .1 .0) in getD-any (c .before .before .before .args .t1 .lenders) (c .before .before .before .args .taker .0) 0 nobody (omega arith)
 
--- src/lending.rt:28:5
 returns-2 : tie.Need-returns-2
-returns-2 c = ?
+returns-2 c = let size : length (c .before .before .args .t1 .lenders) ≡ mostWires = array-length w8 mostWires (c .before .before .args .t1 .lenders) _ (c .before .before .good .0 .1 .1 .0) in sym (List·getD-eq-default (c .before .before .args .t1 .lenders) nobody {n = c .before .before .args .taker .0} (omega arith))
 
 pub lender-of-spec : {M : Type 1} → statement M
 lender-of-spec = tie.close (tie.spec cast-n element-copy-out-t8 returns returns-2)
