@@ -69,21 +69,22 @@ pub advanced-places : {s : List ℕ} {start : ℕ} {xs indices places newIndices
 advanced-places stay = refl
 advanced-places (move m a) = advanced-places a ∙ moved-places m
 
-pub advanced-left : {s : List ℕ} {start : ℕ} {xs indices places newIndices newPlaces : List ℕ} → Advanced s start xs indices places newIndices newPlaces
-    → (x : ℕ) → x < length indices → x < length places → Left s start xs indices places newIndices newPlaces x
-advanced-left stay x i p = record { moved = λ h. absurd h; kept = λ h. (refl, refl) }
-advanced-left {s} {start} {newIndices = newIndices} {newPlaces = newPlaces} (move {x = y} {xs = ys} {indices = indices} {places = places} m a) x i p = record {
+-- after one more wire's move
+left-more : {s : List ℕ} {start y : ℕ} {ys indices places midIndices midPlaces newIndices newPlaces : List ℕ} (x : ℕ)
+    → Moved s y start indices places midIndices midPlaces → x < length indices → x < length places
+    → Left s start ys midIndices midPlaces newIndices newPlaces x → Left s start (y ∷ ys) indices places newIndices newPlaces x
+left-more {s} {start} {y} {ys} {midIndices = midIndices} {midPlaces = midPlaces} x m i p rest = record {
   moved = λ h. elim (in-or-out x ys) [
     | inl k ↦ rest .moved k
-    | inr n ↦ elim h [
-      | inl e ↦ (let r = rest .kept n in
-          rw (r .0, r .1) (subst (λ z. NextAt s z start (getD _ z 0) (getD _ z 0)) (sym e)
-          (moved-here m (omega (arith, ap (λ (z : ℕ). z) e)) (omega (arith, ap (λ (z : ℕ). z) e)))))
-      | inr k ↦ absurd (n k)
-    ]
+    | inr n ↦ elim h [ inl e ↦ (let r = rest .kept n in rw (r .0, r .1) (here e)) | inr k ↦ absurd (n k) ]
   ];
   kept = λ h. (let r = rest .kept (λ k. h (inr k)) in let q = moved-apart m x (λ e. h (inl e)) in (r .0 ∙ q .0, r .1 ∙ q .1));
 }
   where
-    rest : Left s start ys _ _ newIndices newPlaces x
-    rest = advanced-left a x (omega (arith, moved-indices m)) (omega (arith, moved-places m))
+    here : x ≡ y → NextAt s x start (getD midIndices x 0) (getD midPlaces x 0)
+    here e = subst (λ z. NextAt s z start (getD midIndices z 0) (getD midPlaces z 0)) (sym e) (moved-here m (omega arith) (omega arith))
+
+pub advanced-left : {s : List ℕ} {start : ℕ} {xs indices places newIndices newPlaces : List ℕ} → Advanced s start xs indices places newIndices newPlaces
+    → (x : ℕ) → x < length indices → x < length places → Left s start xs indices places newIndices newPlaces x
+advanced-left stay x i p = record { moved = λ h. absurd h; kept = λ h. (refl, refl) }
+advanced-left (move m a) x i p = left-more x m i p (advanced-left a x (omega (arith, moved-indices m)) (omega (arith, moved-places m)))
