@@ -203,7 +203,7 @@ module _ (c : Static) (wired : Wired c) (lenders indices : List ℕ) (told : Cir
       )
 
   -- what is ready is the head of each of its lines
-  ready-head : (j : ℕ) → ready (circuitOf c) ps done j ≡ true → (y : ℕ) → on (c .steps) y j ≡ true → getD indices y 0 ≡ j
+  pub ready-head : (j : ℕ) → ready (circuitOf c) ps done j ≡ true → (y : ℕ) → on (c .steps) y j ≡ true → getD indices y 0 ≡ j
   ready-head j r y o =
       let f = ready-exactly (circuitOf c) law ps done j .0 r in
       let h = heads y (below y j o) in
@@ -226,8 +226,7 @@ module _ (c : Static) (wired : Wired c) (lenders indices : List ℕ) (told : Cir
       let i = there (c .steps) j l in
       let x = a-line (i .0) in
       let onto : ((y : ℕ) → In y (linesOf (i .0)) → on (c .steps) y j ≡ true) = λ y k. ap (holds (touches y)) (i .1) ∙ in-stands y (linesOf (i .0)) k in
-      let e = ready-head j r (x .0) (onto (x .0) (x .1)) in
-      (
+      let e = ready-head j r (x .0) (onto (x .0) (x .1)) in (
         x .0,
         below (x .0) j (onto (x .0) (x .1)),
         e,

@@ -5,3 +5,5 @@ pub mod Standing
 pub mod Candidates
 pub mod Moves
 pub mod Heads
+pub mod Turns
+pub mod Written

@@ -34,7 +34,7 @@ fn write_steps(
     out: &mut [u8],
     from: usize,
 ) -> usize
-    requires { ⌜ summary (readCircuit (now circuit)) ≡ done valid ⌝ }
+    requires { ⌜ done valid ≡ summary (readCircuit (now circuit)) ⌝ }
     requires { ⌜ Renames (lenders .lenders) (valid .width) (renaming .qubits) ⌝ }
     requires { ⌜ Started (now circuit) (valid .width) (now indices) (now places) ⌝ }
     requires { ⌜ from + length (stepsBytes (dynamicIn (lenders .lenders) (readCircuit (now circuit)))) ≤ length (now out) ⌝ }
@@ -70,8 +70,8 @@ fn write_steps(
 }
 
 // Writes the dynamic circuit of a valid circuit from the start of the buffer, and gives the place after it.
-fn write_dynamic(circuit: &[u8], valid: Circuit, lenders: Lenders, out: &mut [u8]) -> usize
-    requires { ⌜ summary (readCircuit (now circuit)) ≡ done valid ⌝ }
+pub fn write_dynamic(circuit: &[u8], valid: Circuit, lenders: Lenders, out: &mut [u8]) -> usize
+    requires { ⌜ done valid ≡ summary (readCircuit (now circuit)) ⌝ }
     requires { ⌜ length (outputOf (lenders .lenders) (readCircuit (now circuit))) ≤ length (now out) ⌝ }
     ensures { λ r. ⌜ Wrote (now (out .entry)) 0 (outputOf (lenders .lenders) (readCircuit (now (circuit .entry)))) (now (out .exit)) r ⌝ }
 {

@@ -1,122 +1,106 @@
+-- `writer::dynamic::write_steps` meets its contract: the heads are those after what is written, and what is still to be written is the rest of
+-- the order. Assumes nothing.
+use Prim.Native.Nat.{ℕ}
+use mathlib.Core.Path.{_≡_, sym, ap, subst, _∙_}
+use native.Mathlib.Omega.{arith}
+use borrow.Author.Needs.{needs}
+use Rattle.circuits.specs.Stepping.{foundOf}
+use Rattle.circuits.specs.Reading.{readCircuit}
+use Rattle.circuits.specs.Validity.{stepsBytes}
+use Rattle.circuits.proofs.Rewrites.{Accepted, accepted}
+use Rattle.writer.specs.Outputs.{dynamicIn}
+use Rattle.writer.specs.Heads.{wiresOf, Named}
+use Rattle.writer.proofs.Standing.{stands-faultless}
+use Rattle.writer.proofs.Turns.{Going, going-start, going-end, going-stuck, going-on, chosen-stands, chosen-found, chosen-named, not-over}
 use Rattle.writer.proofs.dynamic.write_steps.Statement.{statement}
 use Rattle.writer.proofs.dynamic.write_steps.Tie as tie
-use Rattle.writer.proofs.dynamic.write_steps.Reads as reads
-use Rattle.writer.proofs.dynamic.write_steps.Lts as lts
-use Rattle.circuits.proofs.step_at.Reads as step-at-reads
-use Rattle.records.proofs.write_record.Reads as write-record-reads
-use Rattle.writer.proofs.choosing.choose.Reads as choose-reads
-use Rattle.writer.proofs.choosing.of_wire.Reads as of-wire-reads
-use Rattle.writer.proofs.renaming.Renaming.rename.Reads as rename-reads
-use Rattle.writer.proofs.seeking.advance.Reads as advance-reads
-use Rattle.writer.proofs.seeking.wires_of.Reads as wires-of-reads
 
 abbrev Inv-loop : tie.InvT-loop
 Inv-loop circuit valid lenders renaming indices₀ places₀ out₀ from to₀ left₀ indices places out to left =
-    ?
+    (a : Accepted circuit valid) × Going circuit valid a (lenders .lenders) out₀ from (stepsBytes (dynamicIn (lenders .lenders) (readCircuit circuit))) indices places out to left
 
 abbrev μ-loop : tie.MeasureT-loop
 μ-loop circuit valid lenders renaming indices₀ places₀ out₀ from to₀ left₀ indices places out to left =
-    ?
+    left
 
--- src/dynamic.rt:45:5
 loop-holds : tie.Need-loop-holds Inv-loop μ-loop
-loop-holds c = ?
+loop-holds c = let a = accepted _ (c .before .before .pre .0) in
+    (a, going-start _ _ a _ (ap (λ o. stepsBytes (dynamicIn (c .before .before .args .lenders .lenders) o)) (a .is)) (c .before .before .pre .1 .1 .1) (c .before .before .pre .1 .1 .0))
 
--- src/dynamic.rt:46:13
 choose-requires : tie.Need-choose-requires Inv-loop μ-loop
-choose-requires c κs = ?
+choose-requires c κs = c .before .before .before .loop .inv .1 .stand
 
--- src/dynamic.rt:48:13
 same-length : tie.Need-same-length Inv-loop μ-loop
-same-length c = ?
+same-length c = c .before .before .before .before .before .before .loop .inv .1 .rest .same
 
--- src/dynamic.rt:48:13
 returns : tie.Need-returns Inv-loop μ-loop
-returns c = ?
+returns c = going-stuck _ _ _ _ (c .before .before .before .before .before .before .loop .inv .1) (c .before .before .choose .ensures) (c .if1 .taken)
 
--- src/dynamic.rt:50:13
 of-wire-requires : tie.Need-of-wire-requires Inv-loop μ-loop
-of-wire-requires c κs = ?
+of-wire-requires c κs = c .before .before .before .before .before .before .before .loop .inv .1 .stand .sized-indices
 
--- src/dynamic.rt:51:13
 of-wire-requires-2 : tie.Need-of-wire-requires-2 Inv-loop μ-loop
-of-wire-requires-2 c κs = ?
+of-wire-requires-2 c κs = c .before .before .before .before .before .before .before .before .before .loop .inv .1 .stand .sized-places
 
--- src/dynamic.rt:52:39
 sub-step-at : tie.Need-sub-step-at Inv-loop μ-loop
-sub-step-at c = ?
+sub-step-at c = chosen-stands _ _ _ _ (c .before .before .before .before .before .before .before .before .before .before .loop .inv .1) (c .before .before .before .before .before .before .choose .ensures) (c .before .before .before .before .if1 .left) (c .before .before .of-wire .ensures) (c .of-wire2 .ensures) .few
 
--- src/dynamic.rt:52:15
 step-at-requires : tie.Need-step-at-requires Inv-loop μ-loop
-step-at-requires c κs = ?
+step-at-requires c κs = search needs
 
--- src/dynamic.rt:53:27
 enum-told : tie.Need-enum-told Inv-loop μ-loop
-enum-told c = ?
+enum-told c = search needs
 
--- src/dynamic.rt:53:27
 same-length-2 : tie.Need-same-length-2 Inv-loop μ-loop
-same-length-2 c = ?
+same-length-2 c = c .before .before .before .before .before .before .before .before .before .before .before .before .before .loop .inv .1 .rest .same
 
--- src/dynamic.rt:53:27
 returns-2 : tie.Need-returns-2 Inv-loop μ-loop
-returns-2 c = ?
+returns-2 c = absurd (not-over _ _ _ _ (c .before .before .before .before .before .before .before .before .before .before .before .before .before .loop .inv .1) (c .before .before .before .before .before .before .before .before .before .choose .ensures) (c .before .before .before .before .before .before .before .if1 .left) (c .before .before .before .before .before .of-wire .ensures) (c .before .before .before .of-wire2 .ensures) (sym (c .before .before .step-at .ensures) ∙ ap foundOf (c .enum-told .given .1)))
 
--- src/dynamic.rt:54:34
 enum-told-2 : tie.Need-enum-told-2 Inv-loop μ-loop
-enum-told-2 c = ?
+enum-told-2 c = search needs
 
--- src/dynamic.rt:54:34
 same-length-3 : tie.Need-same-length-3 Inv-loop μ-loop
-same-length-3 c = ?
+same-length-3 c = c .before .before .before .before .before .before .before .before .before .before .before .before .before .loop .inv .1 .rest .same
 
--- src/dynamic.rt:54:34
 returns-3 : tie.Need-returns-3 Inv-loop μ-loop
-returns-3 c = ?
+returns-3 c = absurd (stands-faultless _ _ _ (chosen-stands _ _ _ _ (c .before .before .before .before .before .before .before .before .before .before .before .before .before .loop .inv .1) (c .before .before .before .before .before .before .before .before .before .choose .ensures) (c .before .before .before .before .before .before .before .if1 .left) (c .before .before .before .before .before .of-wire .ensures) (c .before .before .before .of-wire2 .ensures)) (sym (c .before .before .step-at .ensures) ∙ ap foundOf (c .enum-told2 .given .1)))
 
--- src/dynamic.rt:55:27
 enum-known-instruction : tie.Need-enum-known-instruction Inv-loop μ-loop
-enum-known-instruction c = ?
+enum-known-instruction c = search needs
 
--- src/dynamic.rt:56:48
 rename-requires : tie.Need-rename-requires Inv-loop μ-loop
-rename-requires c κs = ?
+rename-requires c κs = search needs
 
--- src/dynamic.rt:56:17
 write-record-requires : tie.Need-write-record-requires Inv-loop μ-loop
-write-record-requires c κs = ?
+write-record-requires c κs = search needs
 
--- src/dynamic.rt:59:21
 wires-of-requires : tie.Need-wires-of-requires Inv-loop μ-loop
-wires-of-requires c κs = ?
+wires-of-requires c κs = search needs
 
--- src/dynamic.rt:60:21
 add-advance : tie.Need-add-advance Inv-loop μ-loop
-add-advance c = ?
+add-advance c = omega (arith, chosen-found _ _ _ _ (c .before .before .before .before .before .before .before .before .before .before .before .before .before .before .before .before .before .before .before .before .loop .inv .1) (c .before .before .before .before .before .before .before .before .before .before .before .before .before .before .before .before .choose .ensures) (c .before .before .before .before .before .before .before .before .before .before .before .before .before .before .if1 .left) (c .before .before .before .before .before .before .before .before .before .before .before .before .of-wire .ensures) (c .before .before .before .before .before .before .before .before .before .before .of-wire2 .ensures) (sym (c .before .before .before .before .before .before .before .before .before .step-at .ensures) ∙ ap foundOf (c .before .before .before .before .before .before .before .instruction .given .1)) .behind .few)
 
--- src/dynamic.rt:57:17
 advance-requires : tie.Need-advance-requires Inv-loop μ-loop
-advance-requires c κs = ?
+advance-requires c κs = (
+  chosen-found _ _ _ _ (c .before .before .before .before .before .before .before .before .before .before .before .before .before .before .before .before .before .before .before .before .before .before .loop .inv .1) (c .before .before .before .before .before .before .before .before .before .before .before .before .before .before .before .before .before .before .choose .ensures) (c .before .before .before .before .before .before .before .before .before .before .before .before .before .before .before .before .if1 .left) (c .before .before .before .before .before .before .before .before .before .before .before .before .before .before .of-wire .ensures) (c .before .before .before .before .before .before .before .before .before .before .before .before .of-wire2 .ensures) (sym (c .before .before .before .before .before .before .before .before .before .before .before .step-at .ensures) ∙ ap foundOf (c .before .before .before .before .before .before .before .before .before .instruction .given .1)) .behind,
+  subst (λ t. Named (wiresOf t)) (sym (c .before .before .wires-of .ensures)) (chosen-named _ _ _ _ (c .before .before .before .before .before .before .before .before .before .before .before .before .before .before .before .before .before .before .before .before .before .before .loop .inv .1) (c .before .before .before .before .before .before .before .before .before .before .before .before .before .before .before .before .before .before .choose .ensures) (c .before .before .before .before .before .before .before .before .before .before .before .before .before .before .before .before .if1 .left) (c .before .before .before .before .before .before .before .before .before .before .before .before .before .before .of-wire .ensures) (c .before .before .before .before .before .before .before .before .before .before .before .before .of-wire2 .ensures) (sym (c .before .before .before .before .before .before .before .before .before .before .before .step-at .ensures) ∙ ap foundOf (c .before .before .before .before .before .before .before .before .before .instruction .given .1))),
+)
 
--- src/dynamic.rt:65:17
 sub-left : tie.Need-sub-left Inv-loop μ-loop
-sub-left c = ?
+sub-left c = search needs
 
--- src/dynamic.rt:45:5
 loop-less : tie.Need-loop-less Inv-loop μ-loop
-loop-less c = ?
+loop-less c = search needs
 
--- src/dynamic.rt:45:5
 loop-again : tie.Need-loop-again Inv-loop μ-loop
-loop-again c = ?
+loop-again c = (c .before .before .before .before .before .before .before .before .before .before .before .before .before .before .before .before .before .before .before .before .before .before .before .loop .inv .0, going-on _ _ _ _ (c .before .before .before .before .before .before .before .before .before .before .before .before .before .before .before .before .before .before .before .before .before .before .before .loop .inv .1) (c .before .before .before .before .before .before .before .before .before .before .before .before .before .before .before .before .before .before .before .choose .ensures) (c .before .before .before .before .before .before .before .before .before .before .before .before .before .before .before .before .before .if1 .left) (c .before .before .before .before .before .before .before .before .before .before .before .before .before .before .before .of-wire .ensures) (c .before .before .before .before .before .before .before .before .before .before .before .before .before .of-wire2 .ensures) (sym (c .before .before .before .before .before .before .before .before .before .before .before .before .step-at .ensures) ∙ ap foundOf (c .before .before .before .before .before .before .before .before .before .before .instruction .given .1)) (rw (c .before .before .before .wires-of .ensures) at (c .advance .ensures)) (c .before .before .before .before .before .before .before .before .before .before .before .before .before .before .before .before .before .before .before .before .before .before .before .before .before .before .args .renaming .qubits) (c .before .before .before .before .before .before .before .before .before .before .before .before .before .before .before .before .before .before .before .before .before .before .loop-test .taken) (c .before .before .before .before .before .before .before .before .before .before .before .before .before .before .before .before .before .before .before .before .before .before .before .before .before .before .pre .1 .0) (c .before .before .before .before .before .before .before .before .rename .ensures) (c .before .before .before .before .before .before .write-record .ensures))
 
--- src/dynamic.rt:27:1
 same-length-4 : tie.Need-same-length-4 Inv-loop μ-loop
-same-length-4 c = ?
+same-length-4 c = c .before .loop .inv .1 .rest .same
 
--- src/dynamic.rt:27:1
 returns-4 : tie.Need-returns-4 Inv-loop μ-loop
-returns-4 c = ?
+returns-4 c = going-end _ _ _ _ (c .before .loop .inv .1) (omega arith)
 
 pub write-steps-spec : {M : Type 1} → statement M
 write-steps-spec =

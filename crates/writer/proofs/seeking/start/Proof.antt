@@ -1,38 +1,36 @@
+-- `writer::seeking::start` meets its contract: before turn x the heads of the wires below x stand at their first instructions. Assumes nothing.
+use Prim.Native.Nat.{ℕ, _-_, _≤_}
+use mathlib.Core.Path.{_≡_}
+use native.Mathlib.Omega.{arith}
+use borrow.Author.Needs.{needs}
+use Rattle.writer.specs.Heads.{Started}
+use Rattle.writer.proofs.Moves.{started-none, started-more}
 use Rattle.writer.proofs.seeking.start.Statement.{statement}
 use Rattle.writer.proofs.seeking.start.Tie as tie
-use Rattle.writer.proofs.seeking.start.Reads as reads
-use Rattle.writer.proofs.seeking.start.Lts as lts
-use Rattle.writer.proofs.seeking.move_on.Reads as move-on-reads
 
 abbrev Inv-loop : tie.InvT-loop
-Inv-loop circuit width indices₀ places₀ x₀ indices places x = ?
+Inv-loop circuit width indices₀ places₀ x₀ indices places x = (x ≤ width) × Started circuit x indices places
 
 abbrev μ-loop : tie.MeasureT-loop
-μ-loop circuit width indices₀ places₀ x₀ indices places x = ?
+μ-loop circuit width indices₀ places₀ x₀ indices places x = width - x
 
--- src/seeking.rt:137:5
 loop-holds : tie.Need-loop-holds Inv-loop μ-loop
-loop-holds c = ?
+loop-holds c = (search needs, started-none _ _ _ (c .before .pre .1 .1 .0) (c .before .pre .1 .1 .1))
 
--- src/seeking.rt:138:9
 move-on-requires : tie.Need-move-on-requires Inv-loop μ-loop
-move-on-requires c κs = ?
+move-on-requires c κs = (c .before .before .before .before .before .pre .0, omega (arith, c .before .before .before .before .before .pre .1 .0))
 
--- src/seeking.rt:139:9
 add-x : tie.Need-add-x Inv-loop μ-loop
-add-x c = ?
+add-x c = search needs
 
--- src/seeking.rt:137:5
 loop-less : tie.Need-loop-less Inv-loop μ-loop
-loop-less c = ?
+loop-less c = search needs
 
--- src/seeking.rt:137:5
 loop-again : tie.Need-loop-again Inv-loop μ-loop
-loop-again c = ?
+loop-again c = (search needs, started-more (c .before .before .before .before .loop .inv .1) (omega (arith, c .before .before .before .before .before .before .pre .1 .0)) (c .move-on .ensures))
 
--- src/seeking.rt:124:1
 returns : tie.Need-returns Inv-loop μ-loop
-returns c = ?
+returns c = let e : c .before .loop .x ≡ c .before .before .before .args .width = omega arith in rw e at (c .before .loop .inv .1)
 
 pub start-spec : {M : Type 1} → statement M
 start-spec =
