@@ -1,6 +1,6 @@
 pub mod Held
-pub mod Chains
 pub mod Pairs
+pub mod Chains
 pub mod Standing
 pub mod Candidates
 pub mod Moves

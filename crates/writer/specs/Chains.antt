@@ -1,8 +1,8 @@
 -- Chains: which wires the pairs join, the first wire of each chain, and the qubit of each wire. The pairs are given as the lender of each
 -- taker; a number that is no wire's stands for nobody. Definitions alone.
-use Prim.Native.Nat.{ℕ, zero, suc, _+_}
+use Prim.Native.Nat.{ℕ, zero, suc, _+_, _<_}
 use mathlib.Core.Path.{_≡_}
-use mathlib.Core.Bool.{Bool, true, false, not}
+use mathlib.Core.Bool.{Bool, false}
 use mathlib.Core.List.{List, [], _∷_}
 use lib.ListN.{getD}
 use lib.Dec.{ltb}
@@ -56,6 +56,10 @@ module _ (lenders : List ℕ) (width : ℕ) where
   -- how many qubits there are: one for each chain
   abbrev pub qubits : ℕ
   qubits = firstsBelow width
+
+-- each chain has a first wire: the way along the lenders ends at one that takes from nobody
+abbrev pub Begun : List ℕ → ℕ → Type 0
+Begun lenders width = (x : ℕ) → x < width → takes lenders width (firstOf lenders width x) ≡ false
 
 -- the pairs join x and y: they are the same, or a pair joins x to one that is joined to y
 pub data Joined (ps : List Pair) : ℕ → ℕ → Type 0 where
