@@ -89,7 +89,7 @@ a-line (TwoLineGate k l m) = (l .0, inl refl)
 a-line (AngledTwoLineGate k l m a) = (l .0, inl refl)
 
 -- there is an instruction at each index below their number
-there : (is : List Instruction) (k : ℕ) → k < length is → (i : Instruction) × (getElem? is k ≡ some i)
+pub there : (is : List Instruction) (k : ℕ) → k < length is → (i : Instruction) × (getElem? is k ≡ some i)
 there [] k l = absurd (omega arith)
 there (i ∷ is) zero l = (i, refl)
 there (i ∷ is) (suc k) l = there is k (omega arith)

@@ -7,3 +7,5 @@ pub mod Moves
 pub mod Heads
 pub mod Turns
 pub mod Written
+pub mod Stretches
+pub mod Outputs

@@ -82,7 +82,7 @@ module _ (C : runs.Circuit) (ps : List Pair) where
 -- ## Renaming
 
 -- two numberings that agree on its lines rename an instruction alike
-renamed-same : (q r : ℕ → ℕ) (i : Instruction) → ((x : ℕ) → In x (linesOf i) → q x ≡ r x) → renamed q i ≡ renamed r i
+pub renamed-same : (q r : ℕ → ℕ) (i : Instruction) → ((x : ℕ) → In x (linesOf i) → q x ≡ r x) → renamed q i ≡ renamed r i
 renamed-same q r (Reset l) h = ap (λ z. Reset (line z)) (h (l .0) (inl refl))
 renamed-same q r (Measurement l b) h = ap (λ z. Measurement (line z) b) (h (l .0) (inl refl))
 renamed-same q r (Gate k l) h = ap (λ z. Gate k (line z)) (h (l .0) (inl refl))
@@ -97,7 +97,7 @@ order-none : (q : ℕ → ℕ) (is : List Instruction) (ks : List ℕ) → ks �
 unfolding inOrder
 order-none q is ks e = rw e
 
-order-next : (q : ℕ → ℕ) (is : List Instruction) (k : ℕ) (ks : List ℕ) {i : Instruction} → getElem? is k ≡ some i → inOrder q is (k ∷ ks) ≡ renamed q i ∷ inOrder q is ks
+pub order-next : (q : ℕ → ℕ) (is : List Instruction) (k : ℕ) (ks : List ℕ) {i : Instruction} → getElem? is k ≡ some i → inOrder q is (k ∷ ks) ≡ renamed q i ∷ inOrder q is ks
 unfolding inOrder
 order-next q is k ks e = rw (inOrder, e)
 
