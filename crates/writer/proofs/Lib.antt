@@ -9,3 +9,4 @@ pub mod Turns
 pub mod Written
 pub mod Stretches
 pub mod Outputs
+pub mod Worked
