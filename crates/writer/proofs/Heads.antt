@@ -2,33 +2,32 @@
 -- so the least head that may be written is what comes next. Assumes nothing.
 use Prim.Native.Nat.{ℕ, zero, suc, _+_, _≤_, _<_}
 use mathlib.Core.Path.{_≡_, refl, sym, ap, subst, _∙_}
-use mathlib.Core.Logic.{inl, inr, _≢_, _↔_}
-use mathlib.Core.Bool.{Bool, true, false, not, _&&_, _||_, false≢true}
+use mathlib.Core.Logic.{inl, inr, _↔_}
+use mathlib.Core.Bool.{Bool, true, false, _&&_}
 use mathlib.Core.List.{List, [], _∷_, _++_}
-use mathlib.Core.Option.{Option, none, some}
+use mathlib.Core.Option.{some}
 use native.Mathlib.Omega.{arith}
 use lib.ListN.{length, getD, getElem?}
-use lib.Dec.{eqb, ltb}
+use lib.Dec.{eqb}
 use borrow.Author.Tests.{eqb-true, eq-eqb, ltb-true, lt-ltb}
-use Rattle.basics.proofs.Tests.{not-both, true-or-false, refuted, both, and-intro, implied, implies, same-or-other, below-or-not}
+use Rattle.basics.proofs.Tests.{not-both, both, and-intro, implied, implies, same-or-other, below-or-not}
 use Rattle.orders.specs.Indices.{In}
 use Rattle.orders.specs.Runs.{Pair, Lawful}
-use Rattle.orders.specs.Graph.{arrow}
-use Rattle.orders.specs.Schedule.{ready, next}
-use Rattle.orders.proofs.Indices.{before-left, put-last, in-put, in-left, in-right, in-stands, stands-in}
+use Rattle.orders.specs.Schedule.{ready}
+use Rattle.orders.proofs.Indices.{before-left, put-last, in-put, in-left, in-right, in-stands}
 use Rattle.orders.proofs.Graph.{arrow-prec, arrow-pair, arrow-cases}
-use Rattle.orders.proofs.Schedule.{Written, ready-exactly, next-ready, next-is}
+use Rattle.orders.proofs.Schedule.{Written, ready-exactly}
 use Rattle.records.specs.Records.{line}
 use Rattle.records.specs.declared.instructions.Instruction.{Instruction}
 use Rattle.records.specs.declared.instructions.Instruction.the-variants.{Reset, Measurement, Gate, AngledGate, TwoLineGate, AngledTwoLineGate}
 use Rattle.circuits.specs.Reading.{Static}
 use Rattle.circuits.specs.declared.circuit.Circuit.{Circuit}
 use Rattle.precedence.specs.Lives.{linesOf, touches, resets}
-use Rattle.precedence.specs.Precedence.{holds, at, on, linesIn, linesAt, resetOf, measOf, prec, wire, circuitOf, Wired}
-use Rattle.precedence.proofs.Precedence.{must-exactly, prec-exactly, on-prec, on-lines, spans, reset-there, reset-on, meas-on, prec-meas, circuit-lawful}
+use Rattle.precedence.specs.Precedence.{holds, at, on, linesIn, measOf, circuitOf, Wired}
+use Rattle.precedence.proofs.Precedence.{must-exactly, prec-exactly, on-prec, on-lines, spans, reset-there, meas-on, prec-meas, circuit-lawful}
 use Rattle.precedence.proofs.Spans.{at-some, at-inside}
 use Rattle.writer.specs.Chains.{lenderOf, takes, pairsOf}
-use Rattle.writer.specs.Heads.{touchedOf, NextOn, isFree, mayWrite, candidate, Chosen}
+use Rattle.writer.specs.Heads.{touchedOf, NextOn, isFree, mayWrite, candidate}
 use Rattle.writer.proofs.Pairs.{pair-in, pair-says}
 
 -- ## What may be written, by the lines of an instruction

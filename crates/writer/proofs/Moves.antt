@@ -1,16 +1,16 @@
 -- The heads as they move: what a move of some wires' heads leaves at each wire. Assumes nothing.
-use Prim.Native.Nat.{ℕ, _+_, _<_, _≤_}
+use Prim.Native.Nat.{ℕ, _+_, _<_}
 use mathlib.Core.Path.{_≡_, refl, sym, ap, subst, _∙_}
 use mathlib.Core.Logic.{inl, inr, _≢_}
-use mathlib.Core.List.{List, [], _∷_}
+use mathlib.Core.List.{List, _∷_}
 use native.Mathlib.Omega.{arith}
-use lib.ListN.{length, getD, set, length-set}
+use lib.ListN.{length, getD, length-set}
 use lib.Seq.{getD-set-same, getD-set-other}
 use Rattle.basics.proofs.Tests.{same-or-other}
 use Rattle.orders.specs.Indices.{In}
 use Rattle.orders.proofs.Indices.{in-or-out}
 use Rattle.circuits.specs.Limits.{mostWires}
-use Rattle.writer.specs.Heads.{NextAt, Moved, Advanced, stay, move, Named, Started, HeadsStand, wiresOf}
+use Rattle.writer.specs.Heads.{NextAt, Moved, Advanced, stay, move, Named, Started, wiresOf}
 use Rattle.writer.specs.declared.seeking.Touched.{Touched}
 
 pub named-at : {t u : Touched} → t ≡ u → Named (wiresOf t) → (x : ℕ) → In x (wiresOf u) → x < mostWires

@@ -1,7 +1,7 @@
 -- Laws of the dynamic circuit: where the pairs run it has each instruction once, renamed and otherwise unchanged, each wire's in their old
 -- order, and one byte more than the circuit; with no pairs it is the circuit behind a 02 record. Assumes nothing.
 use Prim.Native.Nat.{ℕ, zero, suc, _+_, _<_}
-use mathlib.Core.Path.{_≡_, refl, sym, ap, subst, _∙_}
+use mathlib.Core.Path.{_≡_, refl, sym, ap, _∙_}
 use mathlib.Core.Logic.{inl, inr}
 use mathlib.Core.Bool.{true}
 use mathlib.Core.List.{List, [], _∷_, _++_, map, append-assoc}
@@ -26,7 +26,7 @@ use Rattle.circuits.specs.Validity.{stepsBytes, circuitBytes}
 use Rattle.precedence.specs.Lives.{linesOf}
 use Rattle.precedence.specs.Precedence.{on, circuitOf, Wired}
 use Rattle.precedence.proofs.Precedence.{circuit-lawful, on-prec}
-use Rattle.writer.specs.Chains.{pairsOf, qubitOf, qubits}
+use Rattle.writer.specs.Chains.{pairsOf, qubitOf}
 use Rattle.writer.specs.Outputs.{renamed, leading, inOrder, orderOf, dynamicSteps, output}
 use Rattle.writer.proofs.Chains.{qubit-none, qubits-none}
 use Rattle.writer.proofs.Heads.{there}

@@ -1,13 +1,12 @@
 -- The pairs that the lenders say: whose taker is a wire that takes, and whose lender is that wire's. Assumes nothing.
-use Prim.Native.Nat.{ℕ, zero, suc, _+_, _≤_, _<_}
+use Prim.Native.Nat.{ℕ, zero, suc, _<_}
 use mathlib.Core.Path.{_≡_, refl, sym, ap, subst, _∙_}
 use mathlib.Core.Logic.{inl, inr}
-use mathlib.Core.Bool.{Bool, true, false}
+use mathlib.Core.Bool.{true, false}
 use mathlib.Core.List.{List, [], _∷_}
 use native.Mathlib.Omega.{arith}
 use borrow.Author.Tests.{ltb-true}
-use Rattle.basics.specs.Choice.{pick}
-use Rattle.basics.proofs.Tests.{true-or-false, not-both, same-or-other}
+use Rattle.basics.proofs.Tests.{true-or-false, same-or-other}
 use Rattle.orders.specs.Indices.{In}
 use Rattle.orders.specs.Runs.{Pair}
 use Rattle.writer.specs.Chains.{lenderOf, takes, pairsBelow, pairsOf}

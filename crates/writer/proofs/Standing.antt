@@ -5,7 +5,7 @@ use mathlib.Core.Path.{_≡_, refl, sym, ap, subst, _∙_}
 use mathlib.Core.Logic.{_≢_, inl, inr}
 use mathlib.Core.Bool.{Bool, true, false, _||_}
 use mathlib.Core.List.{List, [], _∷_}
-use mathlib.Core.Option.{Option, none, some}
+use mathlib.Core.Option.{none, some}
 use native.Mathlib.Omega.{arith}
 use native.Mathlib.Numerals.{add-one}
 use lib.ListN.{length, drop, getElem?, length-drop}
@@ -22,7 +22,7 @@ use Rattle.circuits.proofs.Turns.{some-left}
 use Rattle.circuits.proofs.Walks.{steps-next, steps-end, steps-faultless}
 use Rattle.precedence.specs.Lives.{linesOf, touches}
 use Rattle.precedence.specs.Precedence.{holds, on}
-use Rattle.writer.specs.Heads.{touchedOf, wiresOf, stepsIn, Stands, NextOn, NextAt}
+use Rattle.writer.specs.Heads.{touchedOf, wiresOf, stepsIn, Stands, NextAt}
 
 -- ## The wires of an instruction
 

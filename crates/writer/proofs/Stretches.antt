@@ -1,6 +1,6 @@
 -- Where the pairs run, each chain has a first wire, and on each qubit the stretches of the wires of its chain follow one another: a lender's
 -- measurement comes before its taker's reset, so the way along the lenders goes back in the order and never comes round. Assumes nothing.
-use Prim.Native.Nat.{ℕ, zero, suc, _+_, _≤_, _<_}
+use Prim.Native.Nat.{ℕ, zero, suc, _<_}
 use mathlib.Core.Path.{_≡_, refl, sym, ap, subst, _∙_}
 use mathlib.Core.Logic.{_⊎_, inl, inr, _≢_}
 use mathlib.Core.Bool.{true, false}
@@ -8,16 +8,16 @@ use mathlib.Core.List.{List, [], _∷_}
 use native.Mathlib.Omega.{arith}
 use lib.ListN.{length}
 use borrow.Author.Tests.{ltb-true, lt-ltb}
-use Rattle.basics.proofs.Tests.{not-both, true-or-false, refuted, same-or-other}
+use Rattle.basics.proofs.Tests.{true-or-false, refuted, same-or-other}
 use Rattle.orders.specs.Indices.{In, Before, Once}
-use Rattle.orders.specs.Runs.{Pair, Run, Runs, lendersOf}
+use Rattle.orders.specs.Runs.{Pair, Run, lendersOf}
 use Rattle.orders.proofs.Indices.{before-trans, before-irrefl, once-below}
 use Rattle.circuits.specs.Reading.{Static}
 use Rattle.precedence.specs.Precedence.{on, resetOf, measOf, circuitOf, Wired}
-use Rattle.precedence.proofs.Precedence.{circuit-lawful, reset-prec, prec-meas, reset-on, on-prec}
-use Rattle.writer.specs.Chains.{lenderOf, takes, firstFrom, firstOf, qubitOf, pairsOf, Begun}
+use Rattle.precedence.proofs.Precedence.{reset-prec, prec-meas, reset-on}
+use Rattle.writer.specs.Chains.{lenderOf, takes, firstFrom, qubitOf, pairsOf, Begun}
 use Rattle.writer.proofs.Pairs.{pair-in, pair-says}
-use Rattle.writer.proofs.Chains.{first-here, first-takes, first-end, first-low, one-first}
+use Rattle.writer.proofs.Chains.{first-here, first-takes, first-end, one-first}
 
 -- ## Lists of pairs
 

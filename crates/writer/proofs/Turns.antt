@@ -6,11 +6,11 @@ use mathlib.Core.Bool.{true, false}
 use mathlib.Core.List.{List, [], _∷_, _++_, append-assoc, append-nil}
 use mathlib.Core.Option.{some}
 use native.Mathlib.Omega.{arith}
-use lib.ListN.{length, getD, getElem?, length-append}
+use lib.ListN.{length, getD, getElem?}
 use lib.Dec.{ltb}
 use borrow.Author.Tests.{lt-ltb, le-ltb, ltb-true}
 use Rattle.basics.specs.Outcome.{done}
-use Rattle.basics.proofs.Tests.{not-both, refuted, below-or-not}
+use Rattle.basics.proofs.Tests.{refuted, below-or-not}
 use Rattle.orders.specs.Indices.{In}
 use Rattle.orders.specs.Runs.{Pair}
 use Rattle.orders.specs.Runs as runs
@@ -24,9 +24,8 @@ use Rattle.records.specs.Records.{line}
 use Rattle.records.specs.declared.instructions.Instruction.{Instruction}
 use Rattle.records.specs.declared.instructions.Instruction.the-variants.{Reset, Measurement, Gate, AngledGate, TwoLineGate, AngledTwoLineGate}
 use Rattle.records.specs.declared.instructions.Record.the-variants.{Step}
-use Rattle.circuits.specs.Limits.{mostWires, mostInstructions}
+use Rattle.circuits.specs.Limits.{mostInstructions}
 use Rattle.circuits.specs.Stepping.{step, end, stepAt}
-use Rattle.circuits.specs.Reading.{Static, readCircuit}
 use Rattle.circuits.specs.Validity.{stepsBytes}
 use Rattle.circuits.specs.Rewriting.{stepsOf}
 use Rattle.circuits.specs.declared.circuit.Circuit.{Circuit}
@@ -37,8 +36,8 @@ use Rattle.precedence.specs.Precedence.{holds, on, circuitOf, Wired}
 use Rattle.precedence.proofs.Precedence.{read-wired, circuit-lawful}
 use Rattle.precedence.proofs.Spans.{at-inside}
 use Rattle.writer.specs.Chains.{pairsOf, qubitOf}
-use Rattle.writer.specs.Outputs.{renamed, leading, inOrder, dynamicSteps, Renames}
-use Rattle.writer.specs.Heads.{touchedOf, wiresOf, stepsIn, Stands, NextOn, NextAt, Advanced, Named, Started, HeadsStand, mayWrite, candidate, Chooses}
+use Rattle.writer.specs.Outputs.{renamed, inOrder, dynamicSteps, Renames}
+use Rattle.writer.specs.Heads.{touchedOf, wiresOf, stepsIn, Stands, NextOn, Advanced, Named, Started, HeadsStand, mayWrite, candidate, Chooses}
 use Rattle.writer.proofs.Standing.{wires-lines, Found, stands-next, stands-last}
 use Rattle.writer.proofs.Moves.{Left, advanced-indices, advanced-places, advanced-left}
 use Rattle.writer.proofs.Heads.{Head, head-first, head-kept, head-moved, may-ready, ready-head, ready-may}

@@ -1,6 +1,6 @@
 -- The 02 record and behind it the instructions are the dynamic circuit. Assumes nothing.
 use Prim.Native.Nat.{ℕ, _+_, _≤_}
-use mathlib.Core.Path.{_≡_, refl, sym, ap, subst, _∙_}
+use mathlib.Core.Path.{_≡_, sym, ap, subst, _∙_}
 use mathlib.Core.List.{List, _++_}
 use native.Mathlib.Omega.{arith}
 use lib.ListN.{length}
@@ -15,7 +15,7 @@ use Rattle.circuits.specs.declared.circuit.Circuit.{Circuit}
 use Rattle.circuits.proofs.Rewrites.{Accepted, steps-stand}
 use Rattle.circuits.proofs.Validity.{read-valid}
 use Rattle.writer.specs.Chains.{firstsBelow, qubits}
-use Rattle.writer.specs.Outputs.{dynamicSteps, outputOf, dynamicIn}
+use Rattle.writer.specs.Outputs.{outputOf, dynamicIn}
 use Rattle.writer.specs.Heads.{Stands}
 
 module _ (s : List ℕ) (told : Circuit) (a : Accepted s told) where

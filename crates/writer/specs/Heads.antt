@@ -1,20 +1,19 @@
 -- The heads, by which the order of writing is computed: for each wire the index and the place of its first instruction that is not yet
 -- written. Definitions alone.
-use Prim.Native.Nat.{ℕ, suc, _+_, _-_, _≤_, _<_}
+use Prim.Native.Nat.{ℕ, _-_, _≤_, _<_}
 use mathlib.Core.Path.{_≡_}
 use mathlib.Core.Logic.{_⊎_}
 use mathlib.Core.Bool.{Bool, true, false, not, _&&_, _||_}
 use mathlib.Core.List.{List, [], _∷_}
 use lib.ListN.{length, getD, drop, set}
 use lib.Dec.{eqb}
-use Rattle.basics.specs.Outcome.{Outcome, done, refused}
 use Rattle.records.specs.declared.numbers.Wire.{Wire}
 use Rattle.records.specs.declared.instructions.Instruction.{Instruction}
 use Rattle.records.specs.declared.instructions.Instruction.the-variants.{Reset, Measurement, Gate, AngledGate, TwoLineGate, AngledTwoLineGate}
 use Rattle.orders.specs.Indices.{In}
 use Rattle.circuits.specs.Limits.{mostWires, mostInstructions}
 use Rattle.circuits.specs.Stepping.{Steps}
-use Rattle.circuits.specs.Reading.{Static, readCircuit}
+use Rattle.circuits.specs.Reading.{readCircuit}
 use Rattle.circuits.specs.Rewriting.{stepsOf}
 use Rattle.circuits.specs.declared.circuit.Circuit.{Circuit}
 use Rattle.precedence.specs.Precedence.{at, on}

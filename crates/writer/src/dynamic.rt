@@ -20,35 +20,27 @@ ghost use Rattle.basics.specs.Outcome.{done};
 ghost use Rattle.writing.specs.Writing.{Wrote};
 ghost use Rattle.circuits.specs.Reading.{readCircuit, summary};
 ghost use Rattle.circuits.specs.Validity.{stepsBytes};
-ghost use Rattle.writer.specs.Outputs.{Renames, outputOf, dynamicIn};
-ghost use Rattle.writer.specs.Heads.{Started};
+ghost use Rattle.writer.specs.Outputs.{outputOf, dynamicIn};
 
 // Writes the instructions in their order from a place of the buffer on, and gives the place after them.
-fn write_steps(
-    circuit: &[u8],
-    valid: Circuit,
-    lenders: Lenders,
-    renaming: Renaming,
-    indices: &mut [usize; Circuit::MOST_WIRES],
-    places: &mut [usize; Circuit::MOST_WIRES],
-    out: &mut [u8],
-    from: usize,
-) -> usize
+fn write_steps(circuit: &[u8], valid: Circuit, lenders: Lenders, out: &mut [u8], at: usize) -> usize
     requires { ⌜ done valid ≡ summary (readCircuit (now circuit)) ⌝ }
-    requires { ⌜ Renames (lenders .lenders) (valid .width) (renaming .qubits) ⌝ }
-    requires { ⌜ Started (now circuit) (valid .width) (now indices) (now places) ⌝ }
-    requires { ⌜ from + length (stepsBytes (dynamicIn (lenders .lenders) (readCircuit (now circuit)))) ≤ length (now out) ⌝ }
-    ensures { λ r. ⌜ Wrote (now (out .entry)) from (stepsBytes (dynamicIn (lenders .lenders) (readCircuit (now (circuit .entry))))) (now (out .exit)) r ⌝ }
+    requires { ⌜ at + length (stepsBytes (dynamicIn (lenders .lenders) (readCircuit (now circuit)))) ≤ length (now out) ⌝ }
+    ensures { λ r. ⌜ Wrote (now (out .entry)) at (stepsBytes (dynamicIn (lenders .lenders) (readCircuit (now (circuit .entry))))) (now (out .exit)) r ⌝ }
 {
-    let mut to = from;
+    let renaming = Renaming::by_chain(lenders, valid.width);
+    let mut indices = [0usize; Circuit::MOST_WIRES];
+    let mut places = [0usize; Circuit::MOST_WIRES];
+    start(circuit, valid.width, &mut indices, &mut places);
+    let mut to = at;
     let mut left = valid.instructions;
     while 0 < left {
-        let wire = choose(circuit, lenders, valid, indices, places);
-        if valid.width <= wire {
+        let wire = Wire(choose(circuit, lenders, valid, &indices, &places));
+        if valid.width <= wire.0 {
             return to;
         }
-        let index = of_wire(indices, Wire(wire));
-        let place = of_wire(places, Wire(wire));
+        let index = of_wire(&indices, wire);
+        let place = of_wire(&places, wire);
         match step_at(circuit, place, Circuit::MOST_INSTRUCTIONS - index) {
             Found::End => return to,
             Found::Refused(_) => return to,
@@ -59,8 +51,8 @@ fn write_steps(
                     wires_of(instruction),
                     index + 1,
                     next,
-                    indices,
-                    places,
+                    &mut indices,
+                    &mut places,
                 );
                 left -= 1;
             }
@@ -75,21 +67,7 @@ pub fn write_dynamic(circuit: &[u8], valid: Circuit, lenders: Lenders, out: &mut
     requires { ⌜ length (outputOf (lenders .lenders) (readCircuit (now circuit))) ≤ length (now out) ⌝ }
     ensures { λ r. ⌜ Wrote (now (out .entry)) 0 (outputOf (lenders .lenders) (readCircuit (now (circuit .entry)))) (now (out .exit)) r ⌝ }
 {
-    let width = valid.width;
-    let mut indices = [0usize; Circuit::MOST_WIRES];
-    let mut places = [0usize; Circuit::MOST_WIRES];
-    start(circuit, width, &mut indices, &mut places);
-    let renaming = Renaming::by_chain(lenders, width);
-    let qubits = firsts_below(lenders, width, Wire(width));
-    let from = write_record(Record::DynamicWidth(qubits, width), out, 0);
-    write_steps(
-        circuit,
-        valid,
-        lenders,
-        renaming,
-        &mut indices,
-        &mut places,
-        out,
-        from,
-    )
+    let qubits = firsts_below(lenders, valid.width, Wire(valid.width));
+    let at = write_record(Record::DynamicWidth(qubits, valid.width), out, 0);
+    write_steps(circuit, valid, lenders, out, at)
 }

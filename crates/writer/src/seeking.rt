@@ -6,10 +6,10 @@ use records::Instruction;
 use records::Wire;
 ghost use mathlib.Core.Path.{_≡_};
 ghost use Prim.Native.Nat.{_<_, _≤_};
-ghost use lib.ListN.{getD, length};
+ghost use lib.ListN.{length};
 ghost use Rattle.orders.specs.Indices.{stands};
 ghost use Rattle.circuits.specs.Limits.{mostWires, headerLength};
-ghost use Rattle.writer.specs.Heads.{touchedOf, wiresOf, stepsIn, Stands, NextOn, NextAt, Moved, Advanced, Named, Started};
+ghost use Rattle.writer.specs.Heads.{touchedOf, wiresOf, Stands, NextAt, Moved, Advanced, Named, Started};
 
 // The wires that an instruction of the static circuit is on, and whether it is a reset.
 pub enum Touched {

@@ -1,7 +1,5 @@
 -- `writer::chaining::first_of` meets its contract: what is left of the way from here ends where the whole way does. Assumes nothing.
-use Prim.Native.Nat.{ℕ}
 use mathlib.Core.Path.{_≡_, refl, sym, _∙_}
-use native.Mathlib.Omega.{arith}
 use borrow.Author.Needs.{needs}
 use Rattle.writer.specs.Chains.{firstFrom}
 use Rattle.writer.proofs.Chains.{first-here, first-on, first-end}

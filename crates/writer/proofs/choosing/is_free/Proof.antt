@@ -1,5 +1,5 @@
 -- `writer::choosing::is_free` meets its contract. Assumes nothing.
-use mathlib.Core.Path.{_≡_, refl, sym, ap, _∙_}
+use mathlib.Core.Path.{sym, _∙_}
 use Rattle.writer.specs.Heads.{isFree}
 use borrow.Author.Needs.{needs}
 use Rattle.writer.proofs.choosing.is_free.Statement.{statement}

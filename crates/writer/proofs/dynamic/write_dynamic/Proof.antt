@@ -1,17 +1,9 @@
 -- `writer::dynamic::write_dynamic` meets its contract: the 02 record, and behind it the instructions in their order. Assumes nothing.
-use mathlib.Core.Path.{refl}
-use native.Mathlib.Omega.{arith}
-use Rattle.circuits.proofs.Rewrites.{accepted}
-use Rattle.writer.proofs.Written.{first-stands, few-wires, steps-fit, wrote-output}
 use borrow.Author.Needs.{needs}
+use Rattle.circuits.proofs.Rewrites.{accepted}
+use Rattle.writer.proofs.Written.{steps-fit, wrote-output}
 use Rattle.writer.proofs.dynamic.write_dynamic.Statement.{statement}
 use Rattle.writer.proofs.dynamic.write_dynamic.Tie as tie
-
-start-requires : tie.Need-start-requires
-start-requires c κs = let a = accepted _ (c .before .before .before .before .pre .0) in (first-stands _ _ a, (few-wires _ _ a, (refl, refl)))
-
-by-chain-requires : tie.Need-by-chain-requires
-by-chain-requires c κs = search needs
 
 firsts-below-requires : tie.Need-firsts-below-requires
 firsts-below-requires c κs = search needs
@@ -20,24 +12,17 @@ write-record-requires : tie.Need-write-record-requires
 write-record-requires c κs = search needs
 
 write-steps-requires : tie.Need-write-steps-requires
-write-steps-requires c κs = let a = accepted _ (c .before .before .before .before .before .before .before .before .before .before .before .before .before .before .pre .0) in
-    (c .before .before .before .before .before .before .before .before .before .before .before .before .before .before .pre .0, (c .before .before .before .before .before .before .before .before .by-chain .ensures, (c .before .before .before .before .before .before .before .before .before .start .ensures, steps-fit _ _ a _ (c .before .before .before .before .before .before .before .firsts-below .ensures) (c .before .before .before .before .before .write-record .ensures) (c .before .before .before .before .before .before .before .before .before .before .before .before .before .before .pre .1))))
+write-steps-requires c κs = let a = accepted _ (c .before .before .before .before .before .before .before .before .pre .0) in
+    (c .before .before .before .before .before .before .before .before .pre .0, steps-fit _ _ a _ (c .before .before .before .before .before .firsts-below .ensures) (c .before .before .before .write-record .ensures) (c .before .before .before .before .before .before .before .before .pre .1))
 
 same-length : tie.Need-same-length
 same-length c = search needs
 
 returns : tie.Need-returns
-returns c = let a = accepted _ (c .before .before .before .before .before .before .before .before .before .before .before .before .before .before .before .before .before .pre .0) in
-    wrote-output _ _ a _ (c .before .before .before .before .before .before .before .before .before .before .firsts-below .ensures) (c .before .before .before .before .before .before .before .before .write-record .ensures) (c .before .before .before .before .before .before .before .before .before .before .before .before .before .before .before .before .before .pre .1) (c .before .before .write-steps .ensures)
+returns c = let a = accepted _ (c .before .before .before .before .before .before .before .before .before .before .before .pre .0) in
+    wrote-output _ _ a _ (c .before .before .before .before .before .before .before .before .firsts-below .ensures) (c .before .before .before .before .before .before .write-record .ensures) (c .before .before .before .before .before .before .before .before .before .before .before .pre .1) (c .before .before .write-steps .ensures)
 
 pub write-dynamic-spec : {M : Type 1} → statement M
 write-dynamic-spec =
     tie.close
-    (tie.spec
-    start-requires
-    by-chain-requires
-    firsts-below-requires
-    write-record-requires
-    write-steps-requires
-    same-length
-    returns)
+    (tie.spec firsts-below-requires write-record-requires write-steps-requires same-length returns)

@@ -1,5 +1,5 @@
 -- `writer::seeking::next_on` meets its contract: up to here no instruction is on the wire. Assumes nothing.
-use Prim.Native.Nat.{ℕ, _-_}
+use Prim.Native.Nat.{_-_}
 use mathlib.Core.Path.{sym, ap, _∙_}
 use native.Mathlib.Omega.{arith}
 use borrow.Author.Needs.{needs}

@@ -1,5 +1,5 @@
 -- `writer::seeking::start` meets its contract: before turn x the heads of the wires below x stand at their first instructions. Assumes nothing.
-use Prim.Native.Nat.{ℕ, _-_, _≤_}
+use Prim.Native.Nat.{_-_, _≤_}
 use mathlib.Core.Path.{_≡_}
 use native.Mathlib.Omega.{arith}
 use borrow.Author.Needs.{needs}

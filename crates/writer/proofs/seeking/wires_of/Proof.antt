@@ -1,5 +1,4 @@
 -- `writer::seeking::wires_of` meets its contract. Assumes nothing.
-use mathlib.Core.Path.{refl}
 use borrow.Author.Needs.{needs}
 use Rattle.writer.proofs.seeking.wires_of.Statement.{statement}
 use Rattle.writer.proofs.seeking.wires_of.Tie as tie

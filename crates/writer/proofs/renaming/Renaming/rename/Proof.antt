@@ -1,5 +1,4 @@
 -- `writer::renaming::Renaming::rename` meets its contract: lines are renumbered, all else stays. Assumes nothing.
-use mathlib.Core.Path.{refl}
 use borrow.Author.Needs.{needs}
 use Rattle.writer.proofs.renaming.Renaming.rename.Statement.{statement}
 use Rattle.writer.proofs.renaming.Renaming.rename.Tie as tie
