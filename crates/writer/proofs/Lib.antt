@@ -9,4 +9,5 @@ pub mod Turns
 pub mod Written
 pub mod Stretches
 pub mod Outputs
+pub mod Allowed
 pub mod Worked

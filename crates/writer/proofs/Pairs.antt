@@ -31,7 +31,7 @@ module _ (lenders : List ℕ) (width : ℕ) where
   unfolding pairsBelow
   pairs-none = refl
 
-  below-in : (k l t : ℕ) → In (l, t) (pairsBelow lenders width k) → (t < k) × (takes lenders width t ≡ true) × (l ≡ lenderOf lenders t)
+  pub below-in : (k l t : ℕ) → In (l, t) (pairsBelow lenders width k) → (t < k) × (takes lenders width t ≡ true) × (l ≡ lenderOf lenders t)
   below-in zero l t h = absurd (rw pairs-none at h)
   below-in (suc k) l t h = elim (true-or-false (takes lenders width k)) [
     | inl e ↦ elim (subst (In (l, t)) (pairs-taker k e) h) [

@@ -10,7 +10,7 @@ use lib.ListN.{length}
 use borrow.Author.Tests.{ltb-true, lt-ltb}
 use Rattle.basics.proofs.Tests.{true-or-false, refuted, same-or-other}
 use Rattle.orders.specs.Indices.{In, Before, Once}
-use Rattle.orders.specs.Runs.{Pair, Run, lendersOf}
+use Rattle.orders.specs.Runs.{Run}
 use Rattle.orders.proofs.Indices.{before-trans, before-irrefl, once-below}
 use Rattle.circuits.specs.Reading.{Static}
 use Rattle.precedence.specs.Precedence.{on, resetOf, measOf, circuitOf, Wired}
@@ -18,21 +18,6 @@ use Rattle.precedence.proofs.Precedence.{reset-prec, prec-meas, reset-on}
 use Rattle.writer.specs.Chains.{lenderOf, takes, firstFrom, qubitOf, pairsOf, Begun}
 use Rattle.writer.proofs.Pairs.{pair-in, pair-says}
 use Rattle.writer.proofs.Chains.{first-here, first-takes, first-end, one-first}
-
--- ## Lists of pairs
-
-in-lenders : (ps : List Pair) (l t : ℕ) → In (l, t) ps → In l (lendersOf ps)
-in-lenders [] l t h = absurd h
-in-lenders (p ∷ ps) l t (inl e) = inl (ap (λ (q : Pair). q .0) e)
-in-lenders (p ∷ ps) l t (inr h) = inr (in-lenders ps l t h)
-
--- a lender that lends once has one taker
-one-taker : (ps : List Pair) → Once (lendersOf ps) → (l t u : ℕ) → In (l, t) ps → In (l, u) ps → t ≡ u
-one-taker [] o l t u h k = absurd h
-one-taker (p ∷ ps) o l t u (inl e) (inl f) = ap (λ (q : Pair). q .1) e ∙ sym (ap (λ (q : Pair). q .1) f)
-one-taker (p ∷ ps) o l t u (inl e) (inr k) = absurd (o .0 (subst (λ z. In z (lendersOf ps)) (ap (λ (q : Pair). q .0) e) (in-lenders ps l u k)))
-one-taker (p ∷ ps) o l t u (inr h) (inl f) = absurd (o .0 (subst (λ z. In z (lendersOf ps)) (ap (λ (q : Pair). q .0) f) (in-lenders ps l t h)))
-one-taker (p ∷ ps) o l t u (inr h) (inr k) = one-taker ps (o .1) l t u h k
 
 -- ## A run goes back along the lenders
 
@@ -166,12 +151,13 @@ module _ (c : Static) (wired : Wired c) (lenders : List ℕ) (σ : List ℕ) (ru
     | inr f ↦ inl (sym e ∙ first-here lenders (c .width) (suc k) y f)
   ]
 
-  module _ (once : Once (lendersOf (pairsOf lenders (c .width)))) where
+  -- where each lender has one taker
+  module _ (one-taker : (l t u : ℕ) → In (l, t) (pairsOf lenders (c .width)) → In (l, u) (pairsOf lenders (c .width)) → t ≡ u) where
     -- what the lender of x lends to further on, x is or lends to
     past-lender : {l x y z : ℕ} → In (l, x) (pairsOf lenders (c .width)) → Lent l y → In (y, z) (pairsOf lenders (c .width)) → Lent x z
-    past-lender {l} {x} {z = z} h (directly {y = y} k) p = directly (subst (λ u. In (u, z) (pairsOf lenders (c .width))) (one-taker (pairsOf lenders (c .width)) once l y x k h) p)
+    past-lender {l} {x} {z = z} h (directly {y = y} k) p = directly (subst (λ u. In (u, z) (pairsOf lenders (c .width))) (one-taker l y x k h) p)
     past-lender {l} {x} h (through {y = y} {z = w} k r) p =
-        lent-on (subst (λ u. Lent u w) (one-taker (pairsOf lenders (c .width)) once l y x k h) r) p
+        lent-on (subst (λ u. Lent u w) (one-taker l y x k h) r) p
 
     both-take : (x y : ℕ) → x < c .width → y < c .width → takes lenders (c .width) x ≡ true → takes lenders (c .width) y ≡ true
         → Ordered (lenderOf lenders x) (lenderOf lenders y) → Ordered x y
@@ -179,7 +165,7 @@ module _ (c : Static) (wired : Wired c) (lenders : List ℕ) (σ : List ℕ) (ru
         let p = pair-says lenders (c .width) x a t in
         let r = pair-says lenders (c .width) y b u in
         elim o [
-          | inl e ↦ inl (one-taker (pairsOf lenders (c .width)) once (lenderOf lenders x) x y p (subst (λ z. In (z, y) (pairsOf lenders (c .width))) (sym e) r))
+          | inl e ↦ inl (one-taker (lenderOf lenders x) x y p (subst (λ z. In (z, y) (pairsOf lenders (c .width))) (sym e) r))
           | inr s ↦ elim s [ inl f ↦ inr (inl (past-lender p f r)) | inr f ↦ inr (inr (past-lender r f p)) ]
         ]
 
