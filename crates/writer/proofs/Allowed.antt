@@ -69,11 +69,13 @@ fewer : (ps qs : List Pair) → ((l t : ℕ) → In (l, t) ps → In (l, t) qs) 
 fewer ps qs sub t h = let r = taker-in ps t h in in-takers qs (r .0) t (sub (r .0) t (r .1))
 
 same-length : (ps qs : List Pair) → Once (takersOf ps) → Once (takersOf qs) → SamePairs ps qs → length ps ≡ length qs
-same-length ps qs a b same = omega (arith,
+same-length ps qs a b same = omega (
+  arith,
   once-fits (takersOf ps) (takersOf qs) a (fewer ps qs (λ l t. same l t .0)),
   once-fits (takersOf qs) (takersOf ps) b (fewer qs ps (λ l t. same l t .1)),
   takers-length ps,
-  takers-length qs)
+  takers-length qs,
+)
 
 -- ## A list and its lenders
 

@@ -1,4 +1,3 @@
-pub mod Held
 pub mod Pairs
 pub mod Chains
 pub mod Standing
