@@ -14,7 +14,7 @@ use Rattle.circuits.specs.Validity.{stepsBytes}
 use Rattle.circuits.specs.declared.circuit.Circuit.{Circuit}
 use Rattle.circuits.proofs.Rewrites.{Accepted, steps-stand}
 use Rattle.circuits.proofs.Validity.{read-valid}
-use Rattle.writer.specs.Chains.{firstsBelow, qubits}
+use Rattle.writer.specs.Chains.{qubits}
 use Rattle.writer.specs.Outputs.{outputOf, dynamicIn}
 use Rattle.writer.specs.Heads.{Stands}
 
@@ -26,14 +26,14 @@ module _ (s : List ℕ) (told : Circuit) (a : Accepted s told) where
   pub few-wires : told .width ≤ mostWires
   few-wires = omega (arith, a .width, read-valid s (a .is) .narrow)
 
-  module _ (lenders : List ℕ) {n : ℕ} (count : n ≡ firstsBelow lenders (told .width) (told .width)) {old mid : List ℕ} {seam : ℕ}
+  module _ (lenders : List ℕ) {n : ℕ} (count : n ≡ qubits lenders (told .width)) {old mid : List ℕ} {seam : ℕ}
       (header : Placed old 0 (recordBytes (DynamicWidth n (told .width))) mid seam)
       (room : length (outputOf lenders (readCircuit s)) ≤ length old) where
     -- the whole is the record and the instructions
     parts : recordBytes (DynamicWidth n (told .width)) ++ stepsBytes (dynamicIn lenders (readCircuit s)) ≡ outputOf lenders (readCircuit s)
     parts =
         ap (λ k. recordBytes (DynamicWidth k (told .width)) ++ stepsBytes (dynamicIn lenders (readCircuit s))) count
-        ∙ ap (λ w. recordBytes (DynamicWidth (firstsBelow lenders w w) w) ++ stepsBytes (dynamicIn lenders (readCircuit s))) (a .width)
+        ∙ ap (λ w. recordBytes (DynamicWidth (qubits lenders w) w) ++ stepsBytes (dynamicIn lenders (readCircuit s))) (a .width)
         ∙ ap (λ o. recordBytes (DynamicWidth (qubits lenders (a .circuit .width)) (a .circuit .width)) ++ stepsBytes (dynamicIn lenders o)) (a .is)
         ∙ ap (outputOf lenders) (sym (a .is))
 

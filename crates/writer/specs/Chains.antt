@@ -23,11 +23,12 @@ module _ (lenders : List ℕ) (width : ℕ) where
   abbrev pub takes : ℕ → Bool
   takes t = ltb (lenderOf lenders t) width
 
-  -- the pairs whose takers are the wires below k, and the pairs that the lenders say
+  -- the pairs whose takers are the wires below k
   unfoldable pub pairsBelow : ℕ → List Pair
   pairsBelow zero = []
   pairsBelow (suc k) = pick (takes k) ((lenderOf lenders k, k) ∷ pairsBelow k) (pairsBelow k)
 
+  -- the pairs that the lenders say
   abbrev pub pairsOf : List Pair
   pairsOf = pairsBelow width
 

@@ -1,8 +1,8 @@
-// Chains: the first wire of a wire's chain, and how many chains begin below a wire.
+// Chains: the first wire of a wire's chain, how many chains begin below a wire, and how many there are.
 use crate::lending::Lenders;
 use records::Wire;
 ghost use mathlib.Core.Path.{_≡_};
-ghost use Rattle.writer.specs.Chains.{firstOf, begins, firstsBelow};
+ghost use Rattle.writer.specs.Chains.{firstOf, begins, firstsBelow, qubits};
 
 // The first wire of a wire's chain.
 pub fn first_of(lenders: Lenders, width: u8, wire: Wire) -> Wire
@@ -39,4 +39,11 @@ pub fn firsts_below(lenders: Lenders, width: u8, wire: Wire) -> u8
         x += 1;
     }
     count
+}
+
+// How many qubits there are: one for each chain.
+pub fn qubits_for(lenders: Lenders, width: u8) -> u8
+    ensures { λ r. ⌜ r ≡ qubits (lenders .lenders) width ⌝ }
+{
+    firsts_below(lenders, width, Wire(width))
 }

@@ -1,5 +1,5 @@
 // The dynamic circuit written: its 02 record, then the instructions in the order of document 01, renamed.
-use crate::chaining::firsts_below;
+use crate::chaining::qubits_for;
 use crate::choosing::choose;
 use crate::choosing::of_wire;
 use crate::lending::Lenders;
@@ -67,7 +67,7 @@ pub fn write_dynamic(circuit: &[u8], valid: Circuit, lenders: Lenders, out: &mut
     requires { ⌜ length (outputOf (lenders .lenders) (readCircuit (now circuit))) ≤ length (now out) ⌝ }
     ensures { λ r. ⌜ Wrote (now (out .entry)) 0 (outputOf (lenders .lenders) (readCircuit (now (circuit .entry)))) (now (out .exit)) r ⌝ }
 {
-    let qubits = firsts_below(lenders, valid.width, Wire(valid.width));
+    let qubits = qubits_for(lenders, valid.width);
     let at = write_record(Record::DynamicWidth(qubits, valid.width), out, 0);
     write_steps(circuit, valid, lenders, out, at)
 }

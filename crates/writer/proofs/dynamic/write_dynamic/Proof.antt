@@ -5,24 +5,24 @@ use Rattle.writer.proofs.Written.{steps-fit, wrote-output}
 use Rattle.writer.proofs.dynamic.write_dynamic.Statement.{statement}
 use Rattle.writer.proofs.dynamic.write_dynamic.Tie as tie
 
-firsts-below-requires : tie.Need-firsts-below-requires
-firsts-below-requires c κs = search needs
+qubits-for-requires : tie.Need-qubits-for-requires
+qubits-for-requires c κs = search needs
 
 write-record-requires : tie.Need-write-record-requires
 write-record-requires c κs = search needs
 
 write-steps-requires : tie.Need-write-steps-requires
 write-steps-requires c κs = let a = accepted _ (c .before .before .before .before .before .before .before .before .pre .0) in
-    (c .before .before .before .before .before .before .before .before .pre .0, steps-fit _ _ a _ (c .before .before .before .before .before .firsts-below .ensures) (c .before .before .before .write-record .ensures) (c .before .before .before .before .before .before .before .before .pre .1))
+    (c .before .before .before .before .before .before .before .before .pre .0, steps-fit _ _ a _ (c .before .before .before .before .before .qubits-for .ensures) (c .before .before .before .write-record .ensures) (c .before .before .before .before .before .before .before .before .pre .1))
 
 same-length : tie.Need-same-length
 same-length c = search needs
 
 returns : tie.Need-returns
 returns c = let a = accepted _ (c .before .before .before .before .before .before .before .before .before .before .before .pre .0) in
-    wrote-output _ _ a _ (c .before .before .before .before .before .before .before .before .firsts-below .ensures) (c .before .before .before .before .before .before .write-record .ensures) (c .before .before .before .before .before .before .before .before .before .before .before .pre .1) (c .before .before .write-steps .ensures)
+    wrote-output _ _ a _ (c .before .before .before .before .before .before .before .before .qubits-for .ensures) (c .before .before .before .before .before .before .write-record .ensures) (c .before .before .before .before .before .before .before .before .before .before .before .pre .1) (c .before .before .write-steps .ensures)
 
 pub write-dynamic-spec : {M : Type 1} → statement M
 write-dynamic-spec =
     tie.close
-    (tie.spec firsts-below-requires write-record-requires write-steps-requires same-length returns)
+    (tie.spec qubits-for-requires write-record-requires write-steps-requires same-length returns)
