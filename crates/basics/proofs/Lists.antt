@@ -16,6 +16,3 @@ pub getD-inside : (xs : List ℕ) (i d e : ℕ) → i < length xs → getD xs i 
 getD-inside [] i d e h = absurd (not-suc-le-zero h)
 getD-inside (y ∷ xs) zero d e h = refl
 getD-inside (y ∷ xs) (suc i) d e h = getD-inside xs i d e (le-of-suc-le-suc h)
-getD-inside [] i d e l = absurd (not-suc-le-zero l)
-getD-inside (x ∷ xs) zero d e l = refl
-getD-inside (x ∷ xs) (suc i) d e l = getD-inside xs i d e (le-of-suc-le-suc l)
