@@ -17,7 +17,8 @@ use Rattle.orders.proofs.Schedule.{schedule-same}
 use Rattle.circuits.specs.Reading.{Static}
 use Rattle.precedence.specs.Precedence.{on, prec, circuitOf, Wired}
 use Rattle.precedence.proofs.Precedence.{on-prec}
-use Rattle.writer.specs.Chains.{takes, pairsBelow, pairsOf, qubitOf, qubits, Begun}
+use Rattle.pairs.specs.Lending.{takes, pairsBelow, pairsOf}
+use Rattle.writer.specs.Chains.{qubitOf, qubits, Begun}
 use Rattle.writer.specs.Outputs.{orderOf}
 use Rattle.writer.proofs.Pairs.{pairs-none, pairs-taker, pairs-first, below-in}
 use Rattle.writer.proofs.Chains.{qubits-and-pairs}

@@ -13,7 +13,8 @@ use Rattle.basics.specs.Choice.{pick}
 use Rattle.basics.proofs.Tests.{true-or-false, refuted, same-or-other, below-or-not}
 use Rattle.orders.specs.Indices.{In}
 use Rattle.orders.specs.Runs.{Pair}
-use Rattle.writer.specs.Chains.{lenderOf, takes, firstFrom, firstOf, begins, firstsBelow, qubitOf, qubits, pairsBelow, pairsOf}
+use Rattle.pairs.specs.Lending.{lenderOf, takes, pairsBelow, pairsOf}
+use Rattle.writer.specs.Chains.{firstFrom, firstOf, begins, firstsBelow, qubitOf, qubits}
 use Rattle.writer.specs.Chains.{Begun, Joined, same, lends, takes-from}
 use Rattle.writer.proofs.Pairs.{pairs-none, pairs-taker, pairs-first, pair-in, pair-says}
 

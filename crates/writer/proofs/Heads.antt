@@ -26,7 +26,7 @@ use Rattle.precedence.specs.Lives.{linesOf, touches, resets}
 use Rattle.precedence.specs.Precedence.{holds, at, on, linesIn, measOf, circuitOf, Wired}
 use Rattle.precedence.proofs.Precedence.{must-exactly, prec-exactly, on-prec, on-lines, spans, reset-there, meas-on, prec-meas, circuit-lawful}
 use Rattle.precedence.proofs.Spans.{at-some, at-inside}
-use Rattle.writer.specs.Chains.{lenderOf, takes, pairsOf}
+use Rattle.pairs.specs.Lending.{lenderOf, takes, pairsOf}
 use Rattle.writer.specs.Heads.{touchedOf, NextOn, isFree, mayWrite, candidate}
 use Rattle.writer.proofs.Pairs.{pair-in, pair-says}
 

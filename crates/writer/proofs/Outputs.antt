@@ -26,7 +26,8 @@ use Rattle.circuits.specs.Validity.{stepsBytes, circuitBytes}
 use Rattle.precedence.specs.Lives.{linesOf}
 use Rattle.precedence.specs.Precedence.{on, circuitOf, Wired}
 use Rattle.precedence.proofs.Precedence.{circuit-lawful, on-prec}
-use Rattle.writer.specs.Chains.{pairsOf, qubitOf}
+use Rattle.pairs.specs.Lending.{pairsOf}
+use Rattle.writer.specs.Chains.{qubitOf}
 use Rattle.writer.specs.Outputs.{renamed, leading, inOrder, orderOf, dynamicSteps, output}
 use Rattle.writer.proofs.Chains.{qubit-none, qubits-none}
 use Rattle.writer.proofs.Heads.{there}

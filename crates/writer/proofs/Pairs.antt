@@ -9,7 +9,7 @@ use borrow.Author.Tests.{ltb-true}
 use Rattle.basics.proofs.Tests.{true-or-false, same-or-other}
 use Rattle.orders.specs.Indices.{In}
 use Rattle.orders.specs.Runs.{Pair}
-use Rattle.writer.specs.Chains.{lenderOf, takes, pairsBelow, pairsOf}
+use Rattle.pairs.specs.Lending.{lenderOf, takes, pairsBelow, pairsOf}
 
 -- what a pair of the list is
 pub record Said (lenders : List ℕ) (width l t : ℕ) : Type 0 where

@@ -15,7 +15,8 @@ use Rattle.orders.proofs.Indices.{before-trans, before-irrefl, once-below}
 use Rattle.circuits.specs.Reading.{Static}
 use Rattle.precedence.specs.Precedence.{on, resetOf, measOf, circuitOf, Wired}
 use Rattle.precedence.proofs.Precedence.{reset-prec, prec-meas, reset-on}
-use Rattle.writer.specs.Chains.{lenderOf, takes, firstFrom, qubitOf, pairsOf, Begun}
+use Rattle.pairs.specs.Lending.{lenderOf, takes, pairsOf}
+use Rattle.writer.specs.Chains.{firstFrom, qubitOf, Begun}
 use Rattle.writer.proofs.Pairs.{pair-in, pair-says}
 use Rattle.writer.proofs.Chains.{first-here, first-takes, first-end, one-first}
 

@@ -35,7 +35,8 @@ use Rattle.precedence.specs.Lives.{linesOf, touches}
 use Rattle.precedence.specs.Precedence.{holds, on, circuitOf, Wired}
 use Rattle.precedence.proofs.Precedence.{read-wired, circuit-lawful}
 use Rattle.precedence.proofs.Spans.{at-inside}
-use Rattle.writer.specs.Chains.{pairsOf, qubitOf}
+use Rattle.pairs.specs.Lending.{pairsOf}
+use Rattle.writer.specs.Chains.{qubitOf}
 use Rattle.writer.specs.Outputs.{renamed, inOrder, dynamicSteps, Renames}
 use Rattle.writer.specs.Heads.{touchedOf, wiresOf, stepsIn, Stands, NextOn, Advanced, Named, Started, HeadsStand, mayWrite, candidate, Chooses}
 use Rattle.writer.proofs.Standing.{wires-lines, Found, stands-next, stands-last}

@@ -10,7 +10,8 @@ use Rattle.circuits.specs.Judging.{live, judgeReset, judgeMeasurement, judgeGat
 use Rattle.circuits.specs.Stepping.{instructionAt, stepAt}
 use Rattle.circuits.specs.Reading.{widthRead, headerOf, checkedAt, ending, readFrom, readCircuit}
 use Rattle.precedence.specs.Precedence.{firstOf, mustOn, prec}
-use Rattle.writer.specs.Chains.{nobody, pairsBelow, firstFrom, firstsBelow, qubitOf}
+use Rattle.pairs.specs.Lending.{nobody, pairsBelow}
+use Rattle.writer.specs.Chains.{firstFrom, firstsBelow, qubitOf}
 use Rattle.writer.specs.Outputs.{inOrder, outputOf}
 
 -- what is written of a circuit's bytes with the lender of each wire

@@ -1,41 +1,19 @@
--- Chains: which wires the pairs join, the first wire of each chain, and the qubit of each wire. The pairs are given as the lender of each
--- taker; a number that is no wire's stands for nobody. Definitions alone.
+-- Chains: which wires the pairs join, the first wire of each chain, and the qubit of each wire. The pairs are given as the lender of
+-- each taker. Definitions alone.
 use Prim.Native.Nat.{ℕ, zero, suc, _+_, _<_}
 use mathlib.Core.Path.{_≡_}
-use mathlib.Core.Bool.{Bool, false}
-use mathlib.Core.List.{List, [], _∷_}
-use lib.ListN.{getD}
-use lib.Dec.{ltb}
+use mathlib.Core.Bool.{false}
+use mathlib.Core.List.{List}
 use Rattle.basics.specs.Choice.{pick}
 use Rattle.orders.specs.Indices.{In}
 use Rattle.orders.specs.Runs.{Pair}
-
--- no wire's number
-abbrev pub nobody : ℕ
-nobody = 255
-
--- the lender of a wire, or a number that is no wire's
-abbrev pub lenderOf : List ℕ → ℕ → ℕ
-lenderOf lenders t = getD lenders t nobody
+use Rattle.pairs.specs.Lending.{lenderOf, takes}
 
 module _ (lenders : List ℕ) (width : ℕ) where
-  -- whether a wire takes from another: its lender is a wire
-  abbrev pub takes : ℕ → Bool
-  takes t = ltb (lenderOf lenders t) width
-
-  -- the pairs whose takers are the wires below k
-  unfoldable pub pairsBelow : ℕ → List Pair
-  pairsBelow zero = []
-  pairsBelow (suc k) = pick (takes k) ((lenderOf lenders k, k) ∷ pairsBelow k) (pairsBelow k)
-
-  -- the pairs that the lenders say
-  abbrev pub pairsOf : List Pair
-  pairsOf = pairsBelow width
-
   -- from a wire to its lender, at most `steps` times, until one takes from nobody
   unfoldable pub firstFrom : ℕ → ℕ → ℕ
   firstFrom zero x = x
-  firstFrom (suc steps) x = pick (takes x) (firstFrom steps (lenderOf lenders x)) x
+  firstFrom (suc steps) x = pick (takes lenders width x) (firstFrom steps (lenderOf lenders x)) x
 
   -- the first wire of a wire's chain, the one that takes from nobody
   abbrev pub firstOf : ℕ → ℕ
@@ -43,7 +21,7 @@ module _ (lenders : List ℕ) (width : ℕ) where
 
   -- 1 where a chain begins at a wire: it takes from nobody
   abbrev pub begins : ℕ → ℕ
-  begins x = pick (takes x) 0 1
+  begins x = pick (takes lenders width x) 0 1
 
   -- how many first wires are lower than k
   unfoldable pub firstsBelow : ℕ → ℕ

@@ -17,7 +17,7 @@ use Rattle.circuits.specs.Reading.{readCircuit}
 use Rattle.circuits.specs.Rewriting.{stepsOf}
 use Rattle.circuits.specs.declared.circuit.Circuit.{Circuit}
 use Rattle.precedence.specs.Precedence.{at, on}
-use Rattle.writer.specs.Chains.{lenderOf, takes}
+use Rattle.pairs.specs.Lending.{lenderOf, takes}
 use Rattle.writer.specs.declared.seeking.Touched.{Touched}
 use Rattle.writer.specs.declared.seeking.Touched.the-variants as touched
 

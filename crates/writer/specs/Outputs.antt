@@ -16,7 +16,8 @@ use Rattle.circuits.specs.Limits.{mostWires}
 use Rattle.circuits.specs.Reading.{Static}
 use Rattle.circuits.specs.Validity.{stepsBytes}
 use Rattle.precedence.specs.Precedence.{circuitOf}
-use Rattle.writer.specs.Chains.{pairsOf, qubitOf, qubits}
+use Rattle.pairs.specs.Lending.{pairsOf}
+use Rattle.writer.specs.Chains.{qubitOf, qubits}
 
 -- a line by its number's new number
 abbrev pub renumbered : (ℕ → ℕ) → Line → Line

@@ -1,5 +1,5 @@
 // Chains: the first wire of a wire's chain, how many chains begin below a wire, and how many there are.
-use crate::lending::Lenders;
+use pairs::Lenders;
 use records::Wire;
 ghost use mathlib.Core.Path.{_≡_};
 ghost use Rattle.writer.specs.Chains.{firstOf, begins, firstsBelow, qubits};

@@ -1,10 +1,10 @@
 // What comes next: of the heads that may be written, the one earliest in the input.
-use crate::lending::Lenders;
 use crate::seeking::Touched;
 use crate::seeking::wires_of;
 use circuits::Circuit;
 use circuits::Found;
 use circuits::step_at;
+use pairs::Lenders;
 use records::Wire;
 ghost use mathlib.Core.Path.{_≡_};
 ghost use lib.ListN.{getD, length};

@@ -2,7 +2,6 @@
 use crate::chaining::qubits_for;
 use crate::choosing::choose;
 use crate::choosing::of_wire;
-use crate::lending::Lenders;
 use crate::renaming::Renaming;
 use crate::seeking::advance;
 use crate::seeking::start;
@@ -10,6 +9,7 @@ use crate::seeking::wires_of;
 use circuits::Circuit;
 use circuits::Found;
 use circuits::step_at;
+use pairs::Lenders;
 use records::Record;
 use records::Wire;
 use records::write_record;

@@ -2,8 +2,5 @@
 mod chaining;
 mod choosing;
 mod dynamic;
-pub mod lending;
 mod renaming;
 mod seeking;
-
-pub use lending::Lenders;

@@ -1,8 +1,8 @@
 // The renaming by chain: the only way from wire to qubit.
 use crate::chaining::first_of;
 use crate::chaining::firsts_below;
-use crate::lending::Lenders;
 use circuits::Circuit;
+use pairs::Lenders;
 use records::Instruction;
 use records::Line;
 use records::Qubit;
