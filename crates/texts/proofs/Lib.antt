@@ -1,4 +1,5 @@
 pub mod Spaces
 pub mod Sizes
 pub mod Whole
+pub mod ListingLines
 pub mod Worked
