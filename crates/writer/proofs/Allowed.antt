@@ -32,7 +32,7 @@ in-lenders [] l t h = absurd h
 in-lenders (p ∷ ps) l t (inl e) = inl (ap (λ (q : Pair). q .0) e)
 in-lenders (p ∷ ps) l t (inr h) = inr (in-lenders ps l t h)
 
-in-takers : (ps : List Pair) (l t : ℕ) → In (l, t) ps → In t (takersOf ps)
+pub in-takers : (ps : List Pair) (l t : ℕ) → In (l, t) ps → In t (takersOf ps)
 in-takers [] l t h = absurd h
 in-takers (p ∷ ps) l t (inl e) = inl (ap (λ (q : Pair). q .1) e)
 in-takers (p ∷ ps) l t (inr h) = inr (in-takers ps l t h)

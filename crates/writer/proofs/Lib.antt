@@ -9,4 +9,6 @@ pub mod Written
 pub mod Stretches
 pub mod Outputs
 pub mod Allowed
+pub mod Listed
+pub mod Compiles
 pub mod Worked

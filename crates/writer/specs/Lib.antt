@@ -1,3 +1,4 @@
 pub mod Chains
 pub mod Outputs
 pub mod Heads
+pub mod Compiling

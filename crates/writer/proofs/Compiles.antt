@@ -1,0 +1,135 @@
+-- The compiler: what a refused list and an accepted one give. Assumes nothing.
+use Prim.Native.Nat.{ℕ, _+_, _≤_, _<_}
+use mathlib.Core.Path.{_≡_, refl, sym, ap, subst, _∙_}
+use mathlib.Core.List.{List}
+use native.Mathlib.Omega.{arith}
+use lib.ListN.{length}
+use Rattle.basics.specs.Outcome.{Outcome, done, refused, beside}
+use Rattle.basics.proofs.Outcomes.{not-refused}
+use Rattle.writing.specs.Writing.{Settled, fitted}
+use Rattle.writing.proofs.Puts.{settled-refused, fitted-done, fitted-refused}
+use Rattle.orders.specs.Indices.{In}
+use Rattle.orders.specs.Runs.{Allowed, SamePairs}
+use Rattle.circuits.specs.Limits.{mostWires}
+use Rattle.circuits.specs.Reading.{Static, readCircuit}
+use Rattle.circuits.specs.Validity.{circuitBytes}
+use Rattle.circuits.specs.declared.circuit.Circuit.{Circuit}
+use Rattle.circuits.proofs.Rewrites.{Accepted, bytes-again}
+use Rattle.circuits.proofs.Validity.{read-valid}
+use Rattle.precedence.specs.Precedence.{circuitOf, Wired}
+use Rattle.precedence.proofs.Precedence.{read-wired, circuit-lawful}
+use Rattle.table.specs.Marks.{emptyTable}
+use Rattle.table.specs.Growing.{Growing}
+use Rattle.table.specs.Starting.{startTable, tableAtStart, started}
+use Rattle.table.specs.declared.tables.Table.{Table}
+use Rattle.pairs.specs.Lending.{lendersIn, pairsOf}
+use Rattle.pairs.specs.Listing.{readPairs, pairsTold, pairedOf}
+use Rattle.pairs.specs.declared.listing.Paired.{Paired}
+use Rattle.pairs.specs.declared.listing.Pairs.{Pairs}
+use Rattle.pairs.specs.declared.listing.Pairs.the-variants as answer
+use Rattle.records.specs.declared.answers.Refusal.{Refusal}
+use Rattle.pairs.proofs.PairLaws.{pairs-allowed}
+use Rattle.writer.specs.Outputs.{outputOf}
+use Rattle.writer.specs.Compiling.{writtenFor, compiledFrom, compiled}
+use Rattle.writer.proofs.Listed.{same-pairs}
+use Rattle.writer.proofs.Allowed.{list-runs}
+use Rattle.writer.proofs.Outputs.{output-length}
+
+-- ## What the pair list's answer says
+
+answered-as : (t : Table) (o : Outcome Growing) {p : Paired} → p ≡ pairsTold t o → pairedOf (p .answer) ≡ pairedOf (pairsTold t o .answer)
+answered-as t o e = ap (λ (p : Paired). pairedOf (p .answer)) e
+
+list-refused : (t : Table) (o : Outcome Growing) {p : Paired} → p ≡ pairsTold t o → {r : Refusal} → p .answer ≡ answer.Refused r
+    → o ≡ refused (r .number) (r .place)
+list-refused t (done g) e a = absurd (not-refused (sym (ap pairedOf a) ∙ answered-as t (done g) e))
+list-refused t (refused n q) e {r} a =
+    let z : refused (r .number) (r .place) ≡ refused n q = sym (ap pairedOf a) ∙ answered-as t (refused n q) e in
+    let b : r .number ≡ n = cc in
+    let c : r .place ≡ q = cc in
+    cc
+
+-- the pairs of an accepted list, and their lenders
+record Listed (o : Outcome Growing) (p : Paired) : Type 0 where
+  pub growing : Growing
+  pub is : o ≡ done growing
+  pub lenders : p .lenders .lenders ≡ lendersIn (growing .pairs)
+
+list-accepted : (t : Table) (o : Outcome Growing) {p : Paired} → p ≡ pairsTold t o → {n : ℕ} → p .answer ≡ answer.Accepted n → Listed o p
+list-accepted t (done g) e a = record { growing = g; is = refl; lenders = ap (λ (p : Paired). p .lenders .lenders) e }
+list-accepted t (refused n q) e a = absurd (not-refused (sym (answered-as t (refused n q) e) ∙ ap pairedOf a))
+
+-- ## Room
+
+-- one byte more than a circuit has is asked for
+module _ (old circuit bytes : List ℕ) (size : length bytes ≡ length circuit + 1) where
+  pub room-short : length old ≤ length circuit → Settled old (fitted (length old) bytes) (refused 31 (length circuit + 1)) old
+  room-short h = settled-refused (fitted-refused (length old) bytes (omega (arith, size)) ∙ ap (refused 31) size)
+
+  pub room-enough : length circuit < length old → fitted (length old) bytes ≡ done bytes
+  room-enough h = fitted-done (length old) bytes (omega (arith, size))
+
+-- what is settled is settled as what is equal to it
+pub settled-as : {old new : List ℕ} {o q : Outcome (List ℕ)} {told : Outcome ℕ} → o ≡ q → Settled old o told new → Settled old q told new
+settled-as {old} {new} {o} {q} {told} e h = subst (λ (r : Outcome (List ℕ)). Settled old r told new) e h
+
+-- ## What is written
+
+pub circuit-refused : (s list : List ℕ) (room : ℕ) {n p : ℕ} → readCircuit s ≡ refused n p → compiled s list room ≡ refused n p
+unfolding compiled
+circuit-refused s list room e = rw e
+
+module _ (s list : List ℕ) {told : Circuit} (a : Accepted s told) where
+  -- the table at the start is the circuit's
+  table-is : {t : Table} → t ≡ beside emptyTable (started s) → t ≡ startTable (a .circuit)
+  table-is e = e ∙ ap (λ (o : Outcome Static). beside emptyTable (tableAtStart o)) (a .is)
+
+  pair-refused : (room : ℕ) {n p : ℕ} → readPairs (startTable (a .circuit)) list ≡ refused n p → compiled s list room ≡ refused n p
+  unfolding compiled
+  pair-refused room e = ap (compiledFrom room list) (a .is) ∙ ap (writtenFor room (a .circuit)) e
+
+  module _ (g : Growing) (e : readPairs (startTable (a .circuit)) list ≡ done g) where
+    compiled-as : (room : ℕ) → compiled s list room ≡ fitted room (outputOf (lendersIn (g .pairs)) (readCircuit s))
+    unfolding compiled
+    compiled-as room =
+        ap (compiledFrom room list) (a .is)
+        ∙ ap (writtenFor room (a .circuit)) e
+        ∙ ap (λ (o : Outcome Static). fitted room (outputOf (lendersIn (g .pairs)) o)) (sym (a .is))
+
+    allowed : Allowed (circuitOf (a .circuit)) (g .pairs)
+    allowed = pairs-allowed s list (a .circuit) g (a .is) e
+
+    wired : Wired (a .circuit)
+    wired = read-wired s (a .is)
+
+    same : SamePairs (g .pairs) (pairsOf (lendersIn (g .pairs)) (a .circuit .width))
+    same = same-pairs (g .pairs) (a .circuit .width) (read-valid s (a .is) .narrow) (allowed .take-once) (λ l t h. let b = allowed .between l t h in
+        (circuit-lawful (a .circuit) wired .low l (b .0), circuit-lawful (a .circuit) wired .low t (b .1)))
+
+    -- the dynamic circuit has one byte more than the static one
+    compiled-length : length (outputOf (lendersIn (g .pairs)) (readCircuit s)) ≡ length s + 1
+    compiled-length =
+        ap (λ (o : Outcome Static). length (outputOf (lendersIn (g .pairs)) o)) (a .is)
+        ∙ output-length (a .circuit) wired (lendersIn (g .pairs)) (list-runs (a .circuit) wired (lendersIn (g .pairs)) (g .pairs) same allowed)
+        ∙ ap (λ (b : List ℕ). length b + 1) (bytes-again s a)
+
+  -- by what the code told of the list
+  module _ {t : Table} (start : t ≡ beside emptyTable (started s)) {p : Paired} (told-of : p ≡ pairsTold t (readPairs t list)) where
+    from-start : {o : Outcome Growing} → readPairs t list ≡ o → readPairs (startTable (a .circuit)) list ≡ o
+    from-start e = ap (λ (u : Table). readPairs u list) (sym (table-is start)) ∙ e
+
+    pub told-refused : {r : Refusal} → p .answer ≡ answer.Refused r → (room : ℕ) → compiled s list room ≡ refused (r .number) (r .place)
+    told-refused e room = pair-refused room (from-start (list-refused t (readPairs t list) told-of e))
+
+    module _ {n : ℕ} (e : p .answer ≡ answer.Accepted n) where
+      listed : Listed (readPairs t list) p
+      listed = list-accepted t (readPairs t list) told-of e
+
+      pub told-length : length (outputOf (p .lenders .lenders) (readCircuit s)) ≡ length s + 1
+      told-length =
+          ap (λ (ls : List ℕ). length (outputOf ls (readCircuit s))) (listed .lenders) ∙ compiled-length (listed .growing) (from-start (listed .is))
+
+      pub told-accepted : (room : ℕ) → fitted room (outputOf (p .lenders .lenders) (readCircuit s)) ≡ compiled s list room
+      told-accepted room =
+          ap (λ (ls : List ℕ). fitted room (outputOf ls (readCircuit s))) (listed .lenders)
+          ∙ sym (compiled-as (listed .growing) (from-start (listed .is)) room)
