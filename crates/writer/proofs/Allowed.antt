@@ -7,6 +7,7 @@ use mathlib.Core.Bool.{true, false}
 use mathlib.Core.List.{List, [], _∷_}
 use native.Mathlib.Omega.{arith}
 use lib.ListN.{length}
+use Rattle.basics.specs.Outcome.{done}
 use Rattle.basics.proofs.Tests.{true-or-false, not-both, below-or-not}
 use Rattle.orders.specs.Indices.{In, Once}
 use Rattle.orders.specs.Runs.{Pair, Runs, Allowed, SamePairs, lendersOf, takersOf}
@@ -14,16 +15,17 @@ use Rattle.orders.specs.Schedule.{schedule}
 use Rattle.orders.proofs.Indices.{once-fits}
 use Rattle.orders.proofs.Runs.{runs-same}
 use Rattle.orders.proofs.Schedule.{schedule-same}
-use Rattle.circuits.specs.Reading.{Static}
+use Rattle.circuits.specs.Reading.{Static, readCircuit}
+use Rattle.circuits.proofs.Validity.{read-valid}
 use Rattle.precedence.specs.Precedence.{on, prec, circuitOf, Wired}
 use Rattle.precedence.proofs.Precedence.{on-prec}
 use Rattle.pairs.specs.Lending.{takes, pairsBelow, pairsOf}
 use Rattle.writer.specs.Chains.{qubitOf, qubits, Begun}
-use Rattle.writer.specs.Outputs.{orderOf}
+use Rattle.writer.specs.Outputs.{orderOf, outputOf}
 use Rattle.writer.proofs.Pairs.{pairs-none, pairs-taker, pairs-first, below-in}
 use Rattle.writer.proofs.Chains.{qubits-and-pairs}
 use Rattle.writer.proofs.Stretches.{Stretched, run-begun, stretches-apart}
-use Rattle.writer.proofs.Outputs.{order-runs}
+use Rattle.writer.proofs.Outputs.{order-runs, output-length}
 
 -- ## Lenders and takers of a list
 
@@ -97,6 +99,11 @@ module _ (c : Static) (wired : Wired c) (lenders : List ℕ) (ps : List Pair) (s
     pub qubits-and-list : qubits lenders (c .width) + length ps ≡ c .width
     qubits-and-list =
         omega (arith, qubits-and-pairs lenders (c .width), same-length ps (pairsOf lenders (c .width)) (ok .take-once) (takers-once lenders (c .width) (c .width)) same)
+
+    -- THEOREM: of the bytes of the circuit, one more is written.
+    pub list-length : (s : List ℕ) → readCircuit s ≡ done c → length (outputOf lenders (readCircuit s)) ≡ length s + 1
+    list-length s e =
+        ap (λ o. length (outputOf lenders o)) e ∙ output-length c wired lenders list-runs ∙ ap (λ xs. length xs + 1) (sym (read-valid s e .bytes))
 
     -- THEOREM: of two wires with one qubit, all instructions of the one stand before all of the other.
     pub list-apart : (x y : ℕ) → x < c .width → y < c .width → x ≢ y → qubitOf lenders (c .width) x ≡ qubitOf lenders (c .width) y
