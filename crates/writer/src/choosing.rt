@@ -12,7 +12,7 @@ ghost use Rattle.circuits.specs.Limits.{mostWires};
 ghost use Rattle.writer.specs.Heads.{stepsIn, Stands, HeadsStand, isFree, mayWrite, candidate, Chooses};
 
 // What is kept of a wire; 0 past the last wire.
-pub fn of_wire(kept: &[usize; Circuit::MOST_WIRES], wire: Wire) -> usize
+pub(crate) fn of_wire(kept: &[usize; Circuit::MOST_WIRES], wire: Wire) -> usize
     requires { ⌜ length (now kept) ≡ mostWires ⌝ }
     ensures { λ r. ⌜ r ≡ getD (now (kept .entry)) (wire .0) 0 ⌝ }
 {
@@ -97,7 +97,7 @@ fn candidate(
 }
 
 // The wire whose head comes next; the width where no head may be written.
-pub fn choose(
+pub(crate) fn choose(
     circuit: &[u8],
     lenders: Lenders,
     valid: Circuit,

@@ -62,7 +62,12 @@ fn write_steps(circuit: &[u8], valid: Circuit, lenders: Lenders, out: &mut [u8],
 }
 
 // Writes the dynamic circuit of a valid circuit from the start of the buffer, and gives the place after it.
-pub fn write_dynamic(circuit: &[u8], valid: Circuit, lenders: Lenders, out: &mut [u8]) -> usize
+pub(crate) fn write_dynamic(
+    circuit: &[u8],
+    valid: Circuit,
+    lenders: Lenders,
+    out: &mut [u8],
+) -> usize
     requires { ⌜ done valid ≡ summary (readCircuit (now circuit)) ⌝ }
     requires { ⌜ length (outputOf (lenders .lenders) (readCircuit (now circuit))) ≤ length (now out) ⌝ }
     ensures { λ r. ⌜ Wrote (now (out .entry)) 0 (outputOf (lenders .lenders) (readCircuit (now (circuit .entry)))) (now (out .exit)) r ⌝ }

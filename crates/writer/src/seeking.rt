@@ -98,7 +98,7 @@ fn move_on(
 }
 
 // Moves the heads of an instruction's wires past it.
-pub fn advance(
+pub(crate) fn advance(
     circuit: &[u8],
     touched: Touched,
     start: usize,
@@ -121,7 +121,7 @@ pub fn advance(
 }
 
 // Sets each wire's head to its first instruction.
-pub fn start(
+pub(crate) fn start(
     circuit: &[u8],
     width: u8,
     indices: &mut [usize; Circuit::MOST_WIRES],
