@@ -14,18 +14,21 @@ use Rattle.orders.specs.Runs.{Circuit, Run, Runs}
 use Rattle.orders.specs.Schedule.{schedule}
 use Rattle.orders.specs.Swaps.{Exchanged, neighbours, later, Reached}
 use Rattle.orders.specs.Swaps as swaps
-use Rattle.orders.proofs.Indices.{in-stands}
+use Rattle.orders.proofs.Indices.{in-stands, order-length}
 use Rattle.orders.proofs.Schedule.{schedule-runs, schedule-none}
 use Rattle.orders.proofs.Swaps.{run-reached}
 use Rattle.records.specs.Bytes.{instructionBytes, recordBytes}
+use Rattle.records.specs.Records.{line}
+use Rattle.records.specs.declared.numbers.Bit.{Bit}
 use Rattle.records.specs.declared.instructions.Instruction.{Instruction}
 use Rattle.records.specs.declared.instructions.Instruction.the-variants.{Reset, Measurement, Gate, AngledGate, TwoLineGate, AngledTwoLineGate}
 use Rattle.records.specs.declared.instructions.Record.the-variants.{DynamicWidth}
 use Rattle.circuits.specs.Reading.{Static}
 use Rattle.circuits.specs.Validity.{stepsBytes, circuitBytes}
 use Rattle.precedence.specs.Lives.{linesOf}
-use Rattle.precedence.specs.Precedence.{on, circuitOf, Wired}
+use Rattle.precedence.specs.Precedence.{holds, on, circuitOf, Wired}
 use Rattle.precedence.proofs.Precedence.{circuit-lawful, on-prec}
+use Rattle.precedence.proofs.Spans.{at-inside}
 use Rattle.pairs.specs.Lending.{pairsOf}
 use Rattle.writer.specs.Chains.{qubitOf}
 use Rattle.writer.specs.Outputs.{renamed, leading, inOrder, orderOf, dynamicSteps, output}
@@ -77,6 +80,14 @@ module _ (q : ℕ → ℕ) (is : List Instruction) where
       let s = order-at σ (λ v w. h v (inr w)) k j e in
       (s .0, s .1, ap (λ l. getElem? l (suc k)) (order-next q is m σ (r .1)) ∙ s .2)
 
+  -- and there are as many as indices
+  order-count : (σ : List ℕ) → ((j : ℕ) → In j σ → j < length is) → length (inOrder q is σ) ≡ length σ
+  unfolding inOrder
+  order-count [] h = refl
+  order-count (m ∷ σ) h =
+      let r = there is m (h m (inl refl)) in
+      ap length (order-next q is m σ (r .1)) ∙ ap suc (order-count σ (λ v w. h v (inr w)))
+
   size-more : (k : ℕ) (σ : List ℕ) → length (stepsBytes (inOrder q is (k ∷ σ))) ≡ bytesAt (getElem? is k) + length (stepsBytes (inOrder q is σ))
   unfolding inOrder
   size-more k σ = leading-size q (getElem? is k) (inOrder q is σ)
@@ -124,6 +135,12 @@ all-still q (i ∷ is) h =
     ap (λ j. j ∷ map (renamed q) is) (renamed-same q (λ x. x) i (λ x k. h x 0 (in-stands x (linesOf i) k)) ∙ renamed-still i)
     ∙ ap (λ l. i ∷ l) (all-still q is (λ x k. h x (suc k)))
 
+-- what stands in a list stands at some index of it
+in-at : (σ : List ℕ) (j : ℕ) → In j σ → (k : ℕ) × (getElem? σ k ≡ some j)
+in-at [] j h = absurd h
+in-at (m ∷ σ) j (inl e) = (0, ap some (sym e))
+in-at (m ∷ σ) j (inr h) = let r = in-at σ j h in (suc (r .0), r .1)
+
 -- ## The dynamic circuit
 
 module _ (c : Static) (wired : Wired c) (lenders : List ℕ) where
@@ -144,6 +161,26 @@ module _ (c : Static) (wired : Wired c) (lenders : List ℕ) where
     pub dynamic-at : (k j : ℕ) → getElem? (orderOf lenders c) k ≡ some j
         → (i : Instruction) × (getElem? (c .steps) j ≡ some i) × (getElem? (dynamicSteps lenders c) k ≡ some (renamed (qubitOf lenders (c .width)) i))
     dynamic-at k j e = order-at (qubitOf lenders (c .width)) (c .steps) (orderOf lenders c) (order-runs .order .only) k j e
+
+    -- THEOREM: each instruction stands in the dynamic circuit, renamed, and it has no others.
+    pub dynamic-has : (j : ℕ) {i : Instruction} → getElem? (c .steps) j ≡ some i
+        → (k : ℕ) × (getElem? (orderOf lenders c) k ≡ some j) × (getElem? (dynamicSteps lenders c) k ≡ some (renamed (qubitOf lenders (c .width)) i))
+    dynamic-has j {i} e =
+        let inside = at-inside (λ k. true) (c .steps) j (ap (holds (λ k. true)) e) in
+        let k = in-at (orderOf lenders c) j (order-runs .order .all j inside) in
+        let r = dynamic-at (k .0) j (k .1) in
+        let same : r .0 ≡ i = cc (r .1, e) in
+        (k .0, k .1, r .2 ∙ ap (λ z. some (renamed (qubitOf lenders (c .width)) z)) same)
+
+    pub dynamic-count : length (dynamicSteps lenders c) ≡ length (c .steps)
+    dynamic-count =
+        order-count (qubitOf lenders (c .width)) (c .steps) (orderOf lenders c) (order-runs .order .only)
+        ∙ order-length (length (c .steps)) (orderOf lenders c) (order-runs .order)
+
+    -- THEOREM: each result has its old bit.
+    pub result-kept : (j x : ℕ) (b : Bit) → getElem? (c .steps) j ≡ some (Measurement (line x) b)
+        → (k : ℕ) × (getElem? (dynamicSteps lenders c) k ≡ some (Measurement (line (qubitOf lenders (c .width) x)) b))
+    result-kept j x b e = let r = dynamic-has j e in (r .0, r .2)
 
     -- THEOREM: the output has one byte more than the circuit.
     pub output-length : length (output lenders c) ≡ length (circuitBytes c) + 1
