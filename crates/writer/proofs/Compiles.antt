@@ -8,13 +8,10 @@ use Rattle.basics.specs.Outcome.{Outcome, done, refused, beside}
 use Rattle.basics.proofs.Outcomes.{not-refused}
 use Rattle.writing.specs.Writing.{Settled, fitted}
 use Rattle.writing.proofs.Puts.{settled-refused, fitted-done, fitted-refused}
-use Rattle.orders.specs.Indices.{In}
 use Rattle.orders.specs.Runs.{Allowed, SamePairs}
-use Rattle.circuits.specs.Limits.{mostWires}
 use Rattle.circuits.specs.Reading.{Static, readCircuit}
-use Rattle.circuits.specs.Validity.{circuitBytes}
 use Rattle.circuits.specs.declared.circuit.Circuit.{Circuit}
-use Rattle.circuits.proofs.Rewrites.{Accepted, bytes-again}
+use Rattle.circuits.proofs.Rewrites.{Accepted}
 use Rattle.circuits.proofs.Validity.{read-valid}
 use Rattle.precedence.specs.Precedence.{circuitOf, Wired}
 use Rattle.precedence.proofs.Precedence.{read-wired, circuit-lawful}
@@ -25,15 +22,13 @@ use Rattle.table.specs.declared.tables.Table.{Table}
 use Rattle.pairs.specs.Lending.{lendersIn, pairsOf}
 use Rattle.pairs.specs.Listing.{readPairs, pairsTold, pairedOf}
 use Rattle.pairs.specs.declared.listing.Paired.{Paired}
-use Rattle.pairs.specs.declared.listing.Pairs.{Pairs}
 use Rattle.pairs.specs.declared.listing.Pairs.the-variants as answer
 use Rattle.records.specs.declared.answers.Refusal.{Refusal}
 use Rattle.pairs.proofs.PairLaws.{pairs-allowed}
 use Rattle.writer.specs.Outputs.{outputOf}
 use Rattle.writer.specs.Compiling.{writtenFor, compiledFrom, compiled}
 use Rattle.writer.proofs.Listed.{same-pairs}
-use Rattle.writer.proofs.Allowed.{list-runs}
-use Rattle.writer.proofs.Outputs.{output-length}
+use Rattle.writer.proofs.Allowed.{list-length}
 
 -- ## What the pair list's answer says
 
@@ -108,10 +103,7 @@ module _ (s list : List ℕ) {told : Circuit} (a : Accepted s told) where
 
     -- the dynamic circuit has one byte more than the static one
     compiled-length : length (outputOf (lendersIn (g .pairs)) (readCircuit s)) ≡ length s + 1
-    compiled-length =
-        ap (λ (o : Outcome Static). length (outputOf (lendersIn (g .pairs)) o)) (a .is)
-        ∙ output-length (a .circuit) wired (lendersIn (g .pairs)) (list-runs (a .circuit) wired (lendersIn (g .pairs)) (g .pairs) same allowed)
-        ∙ ap (λ (b : List ℕ). length b + 1) (bytes-again s a)
+    compiled-length = list-length (a .circuit) wired (lendersIn (g .pairs)) (g .pairs) same allowed s (a .is)
 
   -- by what the code told of the list
   module _ {t : Table} (start : t ≡ beside emptyTable (started s)) {p : Paired} (told-of : p ≡ pairsTold t (readPairs t list)) where
