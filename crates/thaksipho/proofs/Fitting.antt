@@ -39,6 +39,15 @@ word-one (refused m p) (refused n q) f g e =
     let b : p ≡ q = omega arith in
     ap (λ (x : ℕ). refused x p) a ∙ ap (refused n) b
 
+-- bytes that are few enough fit, with room or without
+pub fitted-fits : (room : ℕ) (bytes : List ℕ) → length bytes < placesEnd → Fits (sized (fitted room bytes))
+unfolding fitted
+fitted-fits room bytes h = go (ltb room (length bytes))
+  where
+    go : (b : Bool) → Fits (sized (pick b (refused 31 (length bytes)) (done bytes)))
+    go true = (omega arith, h)
+    go false = h
+
 module _ (s : List ℕ) where
   -- what the reader tells fits
   pub read-fits : Fits (circuitValue (summary (readCircuit s)))
@@ -50,17 +59,13 @@ module _ (s : List ℕ) where
 
   -- what is written again fits
   pub rewrite-fits : (room : ℕ) → Fits (sized (rewritten s room))
-  unfolding rewritten fitted
+  unfolding rewritten
   rewrite-fits room = go (readCircuit s) refl
     where
-      written : (b : Bool) (bytes : List ℕ) → length bytes < placesEnd → Fits (sized (pick b (refused 31 (length bytes)) (done bytes)))
-      written true bytes h = (omega arith, h)
-      written false bytes h = h
-
       go : (o : Outcome Static) → readCircuit s ≡ o → Fits (sized (againOf room o))
       go (done c) e =
           let v = read-valid s e in
-          written (ltb room (length (circuitBytes c))) (circuitBytes c) (omega (arith, valid-short s c v, ap length (v .bytes)))
+          fitted-fits room (circuitBytes c) (omega (arith, valid-short s c v, ap length (v .bytes)))
       go (refused n p) e = let r = refused-circuit s e in (r .0 .0, omega (arith, r .1))
 
 -- what a call told fits, since its outcome does

@@ -1,3 +1,4 @@
 pub mod Fitting
 pub mod TableWords
+pub mod CompileWords
 pub mod ListWords

@@ -51,6 +51,10 @@ module _ (t : Table) (lender taker : ℕ) where
   pub offered-sound : Sound (offered t lender taker)
   offered-sound = handed (accepted t lender taker) (judged t lender taker) judged-sound
 
+  -- a refused offer has a number
+  pub offered-numbered : (n p : ℕ) → offered t lender taker ≡ refused n p → 1 ≤ n
+  offered-numbered n p e = subst Sound e offered-sound .0
+
   pub may-fits : Fits (flag (mayLend t lender taker))
   unfolding mayLend
   may-fits = go (wrongWidth t) (counts t lender taker)

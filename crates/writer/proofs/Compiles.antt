@@ -102,7 +102,7 @@ module _ (s list : List ℕ) {told : Circuit} (a : Accepted s told) where
         (circuit-lawful (a .circuit) wired .low l (b .0), circuit-lawful (a .circuit) wired .low t (b .1)))
 
     -- the dynamic circuit has one byte more than the static one
-    compiled-length : length (outputOf (lendersIn (g .pairs)) (readCircuit s)) ≡ length s + 1
+    pub compiled-length : length (outputOf (lendersIn (g .pairs)) (readCircuit s)) ≡ length s + 1
     compiled-length = list-length (a .circuit) wired (lendersIn (g .pairs)) (g .pairs) same allowed s (a .is)
 
   -- by what the code told of the list
