@@ -14,6 +14,14 @@ mod library {
             out: *mut u8,
             out_length: usize,
         ) -> u64;
+        pub fn thaksipho_compile(
+            circuit: *const u8,
+            circuit_length: usize,
+            pairs: *const u8,
+            pairs_length: usize,
+            out: *mut u8,
+            out_length: usize,
+        ) -> u64;
         pub fn thaksipho_start(
             circuit: *const u8,
             circuit_length: usize,
@@ -51,6 +59,22 @@ pub(crate) fn rewrite(circuit: &[u8], out: &mut [u8]) -> u64 {
     // SAFETY: as above; `out` is lent for writing, so it overlaps no other slice.
     unsafe {
         library::thaksipho_rewrite(circuit.as_ptr(), circuit.len(), out.as_mut_ptr(), out.len())
+    }
+}
+
+pub(crate) fn compile(circuit: &[u8], pairs: &[u8], out: &mut [u8]) -> u64 {
+    let (pairs, pairs_length) = (pairs.as_ptr(), pairs.len());
+    let (out, out_length) = (out.as_mut_ptr(), out.len());
+    // SAFETY: as for `rewrite`.
+    unsafe {
+        library::thaksipho_compile(
+            circuit.as_ptr(),
+            circuit.len(),
+            pairs,
+            pairs_length,
+            out,
+            out_length,
+        )
     }
 }
 

@@ -69,6 +69,26 @@ pub fn rewrite(circuit: &[u8], out: &mut [u8]) -> Result<usize, Refusal> {
     Ok(written as usize)
 }
 
+/// Writes the dynamic circuit of a static circuit and a pair list to the start of `out`, and gives
+/// the number of bytes written: one more than the circuit has. The list is records of kind 60: the
+/// kind, the lender, the taker. The circuit is refused as [`read`] refuses it, then the first pair
+/// that is not as it must be, at its index; where `out` is too short the refusal is 31, and its
+/// place is the length needed.
+///
+/// ```
+/// use thaksipho::compile;
+///
+/// // Two wires without gates on one qubit: the first lends to the second.
+/// let two_wires = [0x01, 2, 0x10, 0, 0x10, 1, 0x11, 0, 0, 0x11, 1, 1];
+/// let mut out = [0; 13];
+/// assert_eq!(compile(&two_wires, &[0x60, 0, 1], &mut out), Ok(13));
+/// assert_eq!(out, [0x02, 1, 2, 0x10, 0, 0x11, 0, 0, 0x10, 0, 0x11, 0, 1]);
+/// ```
+pub fn compile(circuit: &[u8], pairs: &[u8], out: &mut [u8]) -> Result<usize, Refusal> {
+    let written = outcome(boundary::compile(circuit, pairs, out))?;
+    Ok(written as usize)
+}
+
 /// Takes an answer of the library apart: a refusal's number times 2^32 plus its place, or a value
 /// below 2^32.
 fn outcome(answer: u64) -> Result<u32, Refusal> {

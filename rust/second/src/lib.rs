@@ -8,6 +8,7 @@
 #![forbid(unsafe_code)]
 
 mod circuit;
+mod compile;
 mod graph;
 mod greedy;
 mod instruction;
@@ -16,6 +17,7 @@ mod refusal;
 mod table;
 
 pub use circuit::{read, rewrite, Circuit};
+pub use compile::compile;
 pub use graph::Accepted;
 pub use greedy::{greedy, Greedy};
 pub use instruction::{Bit, Instruction, Wire};

@@ -3,6 +3,7 @@
 #![deny(missing_docs)]
 
 mod comparison;
+mod compile;
 mod document;
 mod exhaustive;
 mod greedy;
