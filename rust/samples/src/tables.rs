@@ -23,6 +23,16 @@ pub fn table(width: u8, rows: &[u32], lending: u32, taking: u32) -> Vec<u8> {
     bytes
 }
 
+/// Every table of this width whose marks all stand below it.
+pub fn every_table(width: u8) -> impl Iterator<Item = Vec<u8>> {
+    let bits = u32::from(width);
+    let row = move |marks: u32, at: u32| marks >> (at * bits) & ((1 << bits) - 1);
+    (0..1_u32 << (bits * (bits + 2))).map(move |marks| {
+        let rows: Vec<u32> = (0..bits).map(|at| row(marks, at)).collect();
+        table(width, &rows, row(marks, bits), row(marks, bits + 1))
+    })
+}
+
 /// Any table: mostly narrow, and half of the time with bytes missing or too many. Marks stand
 /// anywhere, on the diagonal and at or above the width too.
 pub fn any_table(random: &mut Random) -> Vec<u8> {

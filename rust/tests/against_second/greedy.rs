@@ -6,7 +6,7 @@ use crate::settings::count_and_source;
 use samples::circuits::*;
 use samples::document::{A, B, OF_P11};
 use samples::records::reuse_pair;
-use samples::tables::{any_table, table, table_of_width};
+use samples::tables::{any_table, every_table, table, table_of_width};
 use samples::Random;
 use thaksipho::bytes::{self, Chosen};
 use thaksipho::{count, greedy, offer, start, Greedy, Pair, Refusal, Table, Wire};
@@ -220,11 +220,7 @@ fn random_tables_made_by_hand() {
 fn every_table_of_up_to_3_wires() {
     let mut seen = Seen::default();
     for width in 1..=3 {
-        let bits = u32::from(width);
-        let row = |marks: u32, at: u32| marks >> (at * bits) & ((1 << bits) - 1);
-        for marks in 0..1_u32 << (bits * (bits + 2)) {
-            let rows: Vec<u32> = (0..bits).map(|at| row(marks, at)).collect();
-            let table = table(width, &rows, row(marks, bits), row(marks, bits + 1));
+        for table in every_table(width) {
             compare_greedy(&table, &mut seen).expect("the width is right");
         }
     }

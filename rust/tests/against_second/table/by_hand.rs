@@ -4,7 +4,7 @@ use super::{compare_every_mark, compare_offer, SPARE_ROOM};
 use crate::comparison::{of_second, Seen};
 use crate::settings::count_and_source;
 use samples::pairs::{any_pair, every_pair};
-use samples::tables::{any_table, table, table_of_width};
+use samples::tables::{any_table, every_table, table, table_of_width};
 use samples::Random;
 use second::Pair;
 use thaksipho::{bytes, count, Table, Wire};
@@ -108,11 +108,7 @@ fn random_tables_after_many_offers() {
 fn every_table_of_up_to_3_wires() {
     let mut seen = Seen::default();
     for width in 1..=3 {
-        let bits = u32::from(width);
-        let row = |marks: u32, at: u32| marks >> (at * bits) & ((1 << bits) - 1);
-        for marks in 0..1_u32 << (bits * (bits + 2)) {
-            let rows: Vec<u32> = (0..bits).map(|at| row(marks, at)).collect();
-            let table = table(width, &rows, row(marks, bits), row(marks, bits + 1));
+        for table in every_table(width) {
             compare_marks(&table);
             let pairs = every_pair(width).map(|(lender, taker)| Pair::of(lender, taker));
             compare_offers(&table, pairs, Table::LENGTH, &mut seen);
