@@ -10,7 +10,7 @@ use samples::records::reuse_pair;
 use samples::Random;
 use thaksipho::{compile, greedy, start, Refusal};
 
-const COUNT: u64 = 6_000;
+const COUNT: u64 = 50_000;
 const SEED: u64 = 96;
 
 /// How much longer than the output the lent buffer is, so that bytes past the output are seen.
@@ -140,6 +140,24 @@ fn random_circuits_and_lists() {
     for number in [20, 21, 22, 23, 24, 25, 31] {
         assert!(seen.refused.contains_key(&number), "no refusal {number}");
     }
+}
+
+#[test]
+fn every_room() {
+    let (count, mut random) = count_and_source(COUNT / 100, SEED);
+    let mut seen = Seen::default();
+    for _ in 0..count {
+        let circuit = any_circuit(&mut random);
+        let list = any_list(&mut random, &circuit);
+        let expected = second::compile(&circuit, &list).map_err(of_second);
+        let context = || format!("{circuit:02x?} with {list:02x?}");
+        for room in 0..=circuit.len() + 1 + SPARE_ROOM {
+            let call = |out: &mut [u8]| compile(&circuit, &list, out);
+            seen.note(&compare_writing(room, &expected, call, context));
+        }
+    }
+    assert!(seen.accepted > 0);
+    assert!(seen.refused.contains_key(&31));
 }
 
 #[test]
