@@ -1,4 +1,4 @@
-//! The proved library held against the independent second program.
+//! The proved library held against the second program.
 
 #![deny(missing_docs)]
 
