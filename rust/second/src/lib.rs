@@ -1,10 +1,11 @@
 //! The second program: what the scope document asks of the pass, in plain Rust.
 //!
 //! It shares no code with the proved crates and works otherwise: lists of kinds on each wire where
-//! they keep states, a search for cycles where they keep a table, sets where they keep bits. It was
-//! not written blind: the table, the greedy choice and the compiler by people who had read the
-//! proved ones, and of the reader it is not on record. So a wrong reading of the document that both
-//! sides share would not show as a difference. It is meant to be seen to be right, not to be fast.
+//! they keep states, a search for cycles where they keep a table, sets where they keep bits. The
+//! reader was written from the document alone, before the proved one. The table, the greedy choice
+//! and the compiler were written by people who had read the proved ones, so a wrong reading of the
+//! document that both sides share would not show there. It is meant to be seen to be right, not to
+//! be fast.
 
 #![deny(missing_docs)]
 #![forbid(unsafe_code)]
