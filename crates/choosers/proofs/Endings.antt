@@ -26,7 +26,7 @@ use Rattle.choosers.specs.Greedy.{Choosing, greedyRounds, greedyFrom, af
 use Rattle.choosers.specs.GrownTables.{asMarks, stateOf, greedyRule, GrownFrom}
 use Rattle.choosers.proofs.YesPairs.{counts-within, far-lender, far-taker, fits, yes-updated}
 use Rattle.choosers.proofs.BestPairs.{best-found, best-none, best-same}
-use Rattle.choosers.proofs.TurnedLists.{reverse-twice, maximal-turned}
+use Rattle.orders.proofs.Turned.{reverse-twice, maximal-turned}
 use Rattle.choosers.proofs.GreedyRounds.{best-is, none-left, chosen, rounds-over, rounds-go-on, still-right, trials-few}
 
 -- the rule of the best pair picks only yes pairs, and none only where no yes is left

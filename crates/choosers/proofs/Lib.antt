@@ -3,6 +3,5 @@ pub mod BestPairs
 pub mod GreedyRounds
 pub mod Underway
 pub mod Settling
-pub mod TurnedLists
 pub mod Endings
 pub mod WorkedB

@@ -6,5 +6,6 @@ pub mod Least
 pub mod Schedule
 pub mod Swaps
 pub mod Pairs
+pub mod Turned
 pub mod Rounds
 pub mod Examples

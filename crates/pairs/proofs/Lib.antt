@@ -1,2 +1,3 @@
 pub mod PairTurns
+pub mod ListForms
 pub mod PairLaws

@@ -1,31 +1,41 @@
--- An accepted pair list: its table is exact for its pairs, so they meet Theorem 1's conditions. Assumes nothing.
-use Prim.Native.Nat.{ℕ, zero, suc, _+_, _-_, _≤_}
-use mathlib.Core.Bool.{Bool, true, false}
+-- A pair list is accepted exactly when it is well formed and its pairs meet Theorem 1's conditions: at each pair the table is exact for the
+-- pairs before it. Assumes nothing.
+use Prim.Native.Nat.{ℕ, zero, suc, _+_, _-_, _≤_, _<_}
 use mathlib.Core.Path.{_≡_, refl, sym, ap, subst, _∙_}
-use mathlib.Core.List.{List, [], _∷_}
+use mathlib.Core.List.{List, [], _∷_, reverse, reverseAux}
 use native.Mathlib.Omega.{arith}
-use lib.ListN.{length}
+use lib.ListN.{length, drop}
 use Rattle.basics.specs.Outcome.{Outcome, done, refused}
 use Rattle.basics.proofs.Outcomes.{not-refused}
 use Rattle.orders.specs.Runs.{Pair, Circuit, Lawful, Allowed}
 use Rattle.orders.specs.Table as orders
-use Rattle.orders.proofs.Table.{offers-grown, start-exact}
+use Rattle.orders.proofs.Table.{offers-grown, start-exact, exact-allowed}
 use Rattle.orders.proofs.Pairs.{allowed-few}
+use Rattle.orders.proofs.Turned.{reverse-twice, allowed-before, allowed-turned}
 use Rattle.circuits.specs.Reading.{Static, readCircuit}
 use Rattle.precedence.specs.Precedence.{circuitOf}
 use Rattle.precedence.proofs.Precedence.{read-wired, circuit-lawful}
 use Rattle.table.specs.Marks.{counts}
+use Rattle.table.specs.Rule.{accepted}
 use Rattle.table.specs.Calls.{offered}
 use Rattle.table.specs.Starting.{startTable}
 use Rattle.table.specs.Growing.{view, Growing, offerTo, taking, grownFrom, stateOf}
 use Rattle.table.specs.declared.tables.Table.{Table}
-use Rattle.table.proofs.DemandThree.{Right, offer-state, offer-right, start-view, start-width}
-use Rattle.pairs.proofs.PairTurns.{pair-refusal}
-use Rattle.pairs.specs.Listing.{Next, pair, end, pairAt, tried, pursued, onward, pairsFrom, readPairs}
+use Rattle.table.proofs.Offers.{yes-taken}
+use Rattle.table.proofs.DemandThree.{Right, may-counts, offer-state, offer-right, start-view, start-width}
+use Rattle.pairs.proofs.PairTurns.{pair-refusal, pairs-end, pairs-on}
+use Rattle.pairs.proofs.ListForms.{Listed, pairs-listed, end-there, pair-there, rest-there, pairs-short}
+use Rattle.pairs.specs.Listing.{pairsBytes, AllowedList, Next, pair, end, pairAt, tried, pursued, onward, pairsFrom, readPairs}
 
 -- the refusals of an offer have numbers
 abbrev pub Numbered : Type 0
 Numbered = (t : Table) (lender taker n p : ℕ) → offered t lender taker ≡ refused n p → 1 ≤ n
+
+-- the reading ends with these pairs, the latest first
+pub record Whole (o : Outcome Growing) (pairs : List Pair) : Type 0 where
+  pub growing : Growing
+  pub is : o ≡ done growing
+  pub same : growing .pairs ≡ pairs
 
 module _ (C : Circuit) (law : Lawful C) where
   -- a table that is exact for its pairs, of a width that document 01 takes
@@ -59,6 +69,28 @@ module _ (C : Circuit) (law : Lawful C) where
       go (done (pair p next)) behind e = taken p next (offered (g .table) (p .0) (p .1)) refl (behind next) e
       go (done end) behind e = let z : g ≡ h = cc in subst Sound z sound
       go (refused n q) behind e = absurd (not-refused e)
+
+  -- the records of allowed pairs are taken, one after the other
+  pairs-taken : (s : List ℕ) (ps : List Pair) (more at index : ℕ) (g : Growing) → Sound g → length ps < more → drop at s ≡ pairsBytes ps
+      → Allowed C (reverseAux ps (g .pairs)) → Whole (pairsFrom more s at index g) (reverseAux ps (g .pairs))
+  pairs-taken s [] more at index g sound l e a = record {
+    growing = g;
+    is = pairs-end s at index more g l (end-there s at index e);
+    same = refl;
+  }
+  pairs-taken s (p ∷ ps) more at index g sound l e a =
+      let yes-is = exact-allowed C law (view (g .table)) (g .pairs) (sound .0) (p .0) (p .1) .1 (allowed-before C ps (p ∷ g .pairs) a) in
+      let taken = yes-taken (g .table) (p .0) (p .1) (may-counts (g .table) (p .0) (p .1) (sound .1) .1 yes-is) in
+      let after = taking p g (done (accepted (g .table) (p .0) (p .1))) in
+      let rest =
+      pairs-taken s ps (more - 1) (at + 3) (index + 1) after
+      (subst (λ (o : Outcome Table). Sound (taking p g o)) taken (offer-sound p g sound))
+      (omega arith) (rest-there s at index p ps e) a in
+      record {
+        growing = rest .growing;
+        is = pairs-on s at index more g (omega arith) (pair-there s at index p ps e) taken ∙ rest .is;
+        same = rest .same;
+      }
 
   -- a refusal has a number, and for its place the index of a pair of so many wires
   abbrev Counted : ℕ → ℕ → Type 0
@@ -94,30 +126,47 @@ module _ (C : Circuit) (law : Lawful C) where
       go (done end) z behind n q e = absurd (not-refused (sym e))
       go (refused m o) z behind n q e = let r = pair-refusal s at index z in told (r .0) (ap (λ (x : ℕ). refused m x) (sym (r .1)) ∙ e)
 
--- an accepted list: its table is exact for its pairs
-pub pairs-exact : (s list : List ℕ) (c : Static) (g : Growing) → readCircuit s ≡ done c → readPairs (startTable c) list ≡ done g
-    → orders.Exact (circuitOf c) (view (g .table)) (g .pairs)
-pairs-exact s list c g e f =
-    pairs-sound (circuitOf c) law (suc (length list)) list 0 0 (grownFrom c) g
-    (start-exact (circuitOf c) law (view (startTable c)) (start-view s c e), start-width s c e []) f .0
-  where
-    law : Lawful (circuitOf c)
-    law = circuit-lawful c (read-wired s e)
+module _ (s list : List ℕ) (c : Static) (e : readCircuit s ≡ done c) where
+  law : Lawful (circuitOf c)
+  law = circuit-lawful c (read-wired s e)
 
--- so its pairs meet Theorem 1's conditions
-pub pairs-allowed : (s list : List ℕ) (c : Static) (g : Growing) → readCircuit s ≡ done c → readPairs (startTable c) list ≡ done g → Allowed (circuitOf c) (g .pairs)
-pairs-allowed s list c g e f = pairs-exact s list c g e f .allowed
+  at-start : Sound (circuitOf c) law (grownFrom c)
+  at-start = (start-exact (circuitOf c) law (view (startTable c)) (start-view s c e), start-width s c e [])
 
--- and there are fewer of them than wires
-pub pairs-few : (s list : List ℕ) (c : Static) (g : Growing) → readCircuit s ≡ done c → readPairs (startTable c) list ≡ done g → length (g .pairs) ≤ c .width - 1
-pairs-few s list c g e f = allowed-few (circuitOf c) (circuit-lawful c (read-wired s e)) (g .pairs) (pairs-allowed s list c g e f)
+  -- an accepted list
+  module _ (g : Growing) (f : readPairs (startTable c) list ≡ done g) where
+    -- its table is exact for its pairs
+    pub pairs-exact : orders.Exact (circuitOf c) (view (g .table)) (g .pairs)
+    pairs-exact = pairs-sound (circuitOf c) law (suc (length list)) list 0 0 (grownFrom c) g at-start f .0
 
--- a refused list: the refusal has a number, and its place is below the number of wires
-pub list-refusal : Numbered → (s list : List ℕ) (c : Static) {n p : ℕ} → readCircuit s ≡ done c → readPairs (startTable c) list ≡ refused n p
-    → (1 ≤ n) × (p ≤ c .width - 1)
-list-refusal numbered s list c {n} {p} e f =
-    refusal-counted (circuitOf c) law numbered (suc (length list)) list 0 0 (grownFrom c)
-    (start-exact (circuitOf c) law (view (startTable c)) (start-view s c e), start-width s c e []) refl n p f
-  where
-    law : Lawful (circuitOf c)
-    law = circuit-lawful c (read-wired s e)
+    -- so its pairs meet Theorem 1's conditions
+    pub pairs-allowed : Allowed (circuitOf c) (g .pairs)
+    pairs-allowed = pairs-exact .allowed
+
+    -- and there are fewer of them than wires
+    pub pairs-few : length (g .pairs) ≤ c .width - 1
+    pairs-few = allowed-few (circuitOf c) law (g .pairs) pairs-allowed
+
+    listed : Listed list 0 [] (g .pairs)
+    listed = pairs-listed list (suc (length list)) 0 0 (grownFrom c) g (omega arith) f
+
+    -- THEOREM: it is well formed, and its pairs, left to right, meet Theorem 1's conditions.
+    pub accepted-list : AllowedList (circuitOf c) list
+    accepted-list = record {
+      pairs = listed .pairs;
+      bytes = listed .bytes;
+      allowed =
+          subst (λ (ps : List Pair). Allowed (circuitOf c) ps) (reverse-twice (listed .pairs))
+          (allowed-turned (circuitOf c) (reverse (listed .pairs)) (subst (λ (ps : List Pair). Allowed (circuitOf c) ps) (listed .taken) pairs-allowed));
+    }
+
+  -- THEOREM: the records of pairs that meet Theorem 1's conditions are accepted.
+  pub list-accepted : (a : AllowedList (circuitOf c) list) → Whole (readPairs (startTable c) list) (reverse (a .pairs))
+  list-accepted a =
+      pairs-taken (circuitOf c) law list (a .pairs) (suc (length list)) 0 0 (grownFrom c) at-start
+      (let size = ap length (a .bytes) in let few = pairs-short (a .pairs) in omega arith)
+      (a .bytes) (allowed-turned (circuitOf c) (a .pairs) (a .allowed))
+
+  -- a refused list: the refusal has a number, and its place is below the number of wires
+  pub list-refusal : Numbered → {n p : ℕ} → readPairs (startTable c) list ≡ refused n p → (1 ≤ n) × (p ≤ c .width - 1)
+  list-refusal numbered {n} {p} f = refusal-counted (circuitOf c) law numbered (suc (length list)) list 0 0 (grownFrom c) at-start refl n p f

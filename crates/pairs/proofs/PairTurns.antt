@@ -1,50 +1,69 @@
 -- The reading of a pair list, one pair at a time. Assumes nothing.
-use Prim.Native.Nat.{ℕ, zero, suc, _+_, _-_, _≤_, _<_}
+use Prim.Native.Nat.{ℕ, suc, _+_, _-_, _≤_, _<_}
 use mathlib.Core.Bool.{Bool, true, false}
-use mathlib.Core.Path.{_≡_, refl, sym, ap, _∙_}
+use mathlib.Core.Path.{_≡_, refl, sym, ap, subst, _∙_}
 use mathlib.Core.List.{List, [], _∷_}
 use native.Mathlib.Omega.{arith}
 use lib.ListN.{length, getD}
 use lib.Dec.{leb}
+use borrow.Author.Tests.{leb-true, leb-false}
 use Rattle.basics.specs.Choice.{pick}
 use Rattle.basics.specs.Outcome.{Outcome, done, refused}
 use Rattle.basics.proofs.Outcomes.{not-refused}
 use Rattle.orders.specs.Runs.{Pair}
 use Rattle.records.specs.Records.{Standing, stands, over, recordAt}
-use Rattle.records.specs.declared.instructions.Record.{Record}
 use Rattle.records.specs.declared.instructions.Record.the-variants.{StaticWidth, DynamicWidth, Step, Reuse}
-use Rattle.records.proofs.RoundTrip.{round-trip}
+use Rattle.records.proofs.Standings.{over-end}
+use Rattle.records.proofs.RoundTrip.{Back, round-trip}
 use Rattle.table.specs.Calls.{offered}
 use Rattle.table.specs.Growing.{Growing}
 use Rattle.table.specs.declared.tables.Table.{Table}
 use Rattle.pairs.specs.Lending.{nobodyLends, lent, lendersIn}
-use Rattle.pairs.specs.Listing.{Next, pair, end, pairKind, pairOf, pairAt, pairsFrom, readPairs, pairsTold, refusedWith}
+use Rattle.pairs.specs.Listing.{Next, pair, end, pairKind, pairRecord, pairOf, pairAt, pairsFrom, readPairs, pairsTold, refusedWith}
 use Rattle.pairs.specs.declared.lending.Lenders.{Lenders}
 use Rattle.pairs.specs.declared.listing.Pairs.the-variants as answer
 
 not-end : {p : Pair} {next : ℕ} → _≡_ {A = Outcome Next} (done end) (done (pair p next)) → ⊥
 not-end {p} {next} e = let z : _≡_ {A = ℕ} 0 1 = cc in omega arith
 
--- a pair that was found stands inside the list
-pub pair-place : (s : List ℕ) (at index : ℕ) {p : Pair} {next : ℕ} → pairAt s at index ≡ done (pair p next) → (at < next) × (next ≤ length s)
+-- a pair that was found: its record's bytes stand there
+pub pair-back : (s : List ℕ) (at index : ℕ) {p : Pair} {next : ℕ} → pairAt s at index ≡ done (pair p next) → Back s at (pairRecord p) next
 unfolding pairAt
-pair-place s at index e = go (leb (length s) at) (pairKind (getD s at 0)) e
+pair-back s at index e = go (leb (length s) at) (pairKind (getD s at 0)) e
   where
-    answer : (o : Outcome Standing) → recordAt s at ≡ o → {p : Pair} {next : ℕ} → pairOf index o ≡ done (pair p next) → (at < next) × (next ≤ length s)
+    answer : (o : Outcome Standing) → recordAt s at ≡ o → {p : Pair} {next : ℕ} → pairOf index o ≡ done (pair p next) → Back s at (pairRecord p) next
     answer (done (stands (Reuse l t) n)) z {p} {next} e =
-        let b = round-trip s at z in
+        let x : (l .0, t .0) ≡ p = cc in
         let y : n ≡ next = cc in
-        (omega (arith, b .past), omega (arith, b .within))
+        subst (λ (m : ℕ). Back s at (pairRecord p) m) y (subst (λ (q : Pair). Back s at (pairRecord q) n) x (round-trip s at z))
     answer (done (stands (StaticWidth w) n)) z e = absurd (not-refused e)
     answer (done (stands (DynamicWidth q b) n)) z e = absurd (not-refused e)
     answer (done (stands (Step i) n)) z e = absurd (not-refused e)
     answer (done over) z e = absurd (not-end e)
     answer (refused n q) z e = absurd (not-refused e)
 
-    go : (a b : Bool) {p : Pair} {next : ℕ} → pick a (done end) (pick b (pairOf index (recordAt s at)) (refused 24 index)) ≡ done (pair p next) → (at < next) × (next ≤ length s)
+    go : (a b : Bool) {p : Pair} {next : ℕ} → pick a (done end) (pick b (pairOf index (recordAt s at)) (refused 24 index)) ≡ done (pair p next) → Back s at (pairRecord p) next
     go true b e = absurd (not-end e)
     go false true e = answer (recordAt s at) refl e
     go false false e = absurd (not-refused e)
+
+-- the end is at the list's end only
+pub pair-end : (s : List ℕ) (at index : ℕ) → pairAt s at index ≡ done end → length s ≤ at
+unfolding pairAt
+pair-end s at index e = go (leb (length s) at) refl (pairKind (getD s at 0)) e
+  where
+    answer : at < length s → (o : Outcome Standing) → recordAt s at ≡ o → pairOf index o ≡ done end → length s ≤ at
+    answer l (done (stands (Reuse x t) n)) z e = absurd (not-end (sym e))
+    answer l (done (stands (StaticWidth w) n)) z e = absurd (not-refused e)
+    answer l (done (stands (DynamicWidth q b) n)) z e = absurd (not-refused e)
+    answer l (done (stands (Step i) n)) z e = absurd (not-refused e)
+    answer l (done over) z e = over-end s at z
+    answer l (refused n q) z e = absurd (not-refused e)
+
+    go : (a : Bool) → leb (length s) at ≡ a → (b : Bool) → pick a (done end) (pick b (pairOf index (recordAt s at)) (refused 24 index)) ≡ done end → length s ≤ at
+    go true q b e = leb-true (length s) at q
+    go false q true e = answer (leb-false (length s) at q) (recordAt s at) refl e
+    go false q false e = absurd (not-refused e)
 
 -- a refusal there has a number, and the pair's index for its place
 pub pair-refusal : (s : List ℕ) (at index : ℕ) {n p : ℕ} → pairAt s at index ≡ refused n p → (1 ≤ n) × (p ≡ index)
@@ -144,7 +163,8 @@ module _ (t : Table) (s : List ℕ) where
           → Going t s after more next (index + 1)
       unfolding growing lendersIn
       going-on {after} {more} f l =
-          let place = pair-place s at index e in
+          let back = pair-back s at index e in
+          let past = back .past in
           let onward = g .onward in
           let counted : length (g .pairs) ≡ index = g .counted in
           let z : suc (length s) - index - 1 ≡ suc (length s) - (index + 1) = omega arith in
@@ -153,7 +173,7 @@ module _ (t : Table) (s : List ℕ) where
             counted = omega arith;
             lends = l ∙ ap (λ (ls : List ℕ). lent ls (p .0) (p .1)) (g .lends);
             onward = omega arith;
-            inside = place .1;
+            inside = back .within;
             reads =
                 ap (λ (n : ℕ). pairsFrom n s next (index + 1) (record { table = after; pairs = p ∷ g .pairs })) (sym z)
                 ∙ sym (pairs-on s at index (suc (length s) - index) growing some e f)

@@ -1,15 +1,18 @@
 -- What any byte string is as a pair list against a table: the pairs, each taken in turn, or a refusal at a pair's index.
 use Prim.Native.Nat.{ℕ, zero, suc, _+_}
+use mathlib.Core.Path.{_≡_}
 use mathlib.Core.Bool.{Bool, true, false}
-use mathlib.Core.List.{List, [], _∷_}
+use mathlib.Core.List.{List, [], _∷_, _++_}
 use mathlib.Core.Option.{Option, none, some}
 use lib.ListN.{length, getD}
 use lib.Dec.{leb}
 use Rattle.basics.specs.Choice.{pick}
 use Rattle.basics.specs.Outcome.{Outcome, done, refused}
-use Rattle.orders.specs.Runs.{Pair}
+use Rattle.orders.specs.Runs.{Circuit, Pair, Allowed}
 use Rattle.records.specs.Kinds.{Shape, shapeOf}
-use Rattle.records.specs.Records.{Standing, stands, over, recordAt}
+use Rattle.records.specs.Records.{Standing, stands, over, recordAt, wire}
+use Rattle.records.specs.Bytes.{recordBytes}
+use Rattle.records.specs.declared.instructions.Record.{Record}
 use Rattle.records.specs.declared.kinds.Form.{Form}
 use Rattle.records.specs.declared.kinds.Form.the-variants as form
 use Rattle.records.specs.declared.instructions.Record.the-variants.{StaticWidth, DynamicWidth, Step, Reuse}
@@ -42,6 +45,20 @@ shapePair (some h) = pairForm (h .form)
 -- the kind of a reuse pair: 60, by the table of kinds
 abbrev pub pairKind : ℕ → Bool
 pairKind k = shapePair (shapeOf k)
+
+-- the record of a pair, and the bytes of a pair list: a record for each pair, left to right
+abbrev pub pairRecord : Pair → Record
+pairRecord p = Reuse (wire (p .0)) (wire (p .1))
+
+unfoldable pub pairsBytes : List Pair → List ℕ
+pairsBytes [] = []
+pairsBytes (p ∷ ps) = recordBytes (pairRecord p) ++ pairsBytes ps
+
+-- a pair list that is well formed, the records of pairs, and its pairs meet the three conditions of Theorem 1
+pub record AllowedList (C : Circuit) (list : List ℕ) : Type 0 where
+  pub pairs : List Pair
+  pub bytes : list ≡ pairsBytes pairs
+  pub allowed : Allowed C pairs
 
 -- a pair and the place after its record, or the end of the list
 pub data Next : Type 0 where

@@ -156,7 +156,7 @@ offers-right [] g right = right
 offers-right (p ∷ ps) g right = offers-right ps (offerTo p g) (offer-right p g right)
 
 -- on such a table `may` says what counts
-may-counts : (t : Table) (l k : ℕ) → Right t → (mayLend t l k ≡ done true) ↔ (counts t l k ≡ true)
+pub may-counts : (t : Table) (l k : ℕ) → Right t → (mayLend t l k ≡ done true) ↔ (counts t l k ≡ true)
 unfolding mayLend
 may-counts t l k right = (λ m. let z : done (counts t l k) ≡ done true = sym (rw right refl) ∙ m in cc, λ m. rw (right, m))
 

@@ -35,7 +35,7 @@ module _ (s list : List ℕ) (room : ℕ) where
           (let size : length (output (lendersIn (g .pairs)) c) ≡ length s + 1 = subst (λ (o : Outcome Static). length (outputOf (lendersIn (g .pairs)) o) ≡ length s + 1) e (compiled-length s list (accepted c e) g f) in
           omega (arith, size, valid-short s c (read-valid s e)))
       listed c e (refused n p) f =
-          let r = list-refusal offered-numbered s list c e f in
+          let r = list-refusal s list c e offered-numbered f in
           (r .0, omega (arith, r .1, read-valid s e .narrow))
 
       go : (o : Outcome Static) → readCircuit s ≡ o → Fits (sized (compiledFrom room list o))

@@ -1,51 +1,21 @@
 -- Laws of the walk: it hands out exactly the records of the circuit, each at its place, up to the end or the first fault.
 -- Assumes nothing.
-use Prim.Native.Nat.{ℕ, zero, suc, _+_, _-_, _≤_, _<_}
-use mathlib.Core.Path.{_≡_, refl, sym, ap, subst, _∙_}
-use mathlib.Core.Bool.{Bool, true, false, false≢true}
+use Prim.Native.Nat.{ℕ, zero, suc, _+_, _≤_}
+use mathlib.Core.Path.{_≡_, refl, sym, ap, _∙_}
+use mathlib.Core.Bool.{true, false, false≢true}
 use mathlib.Core.List.{List, [], _∷_, _++_, append-assoc, append-cancel-left}
-use mathlib.Core.Option.{Option, none, some}
 use native.Mathlib.Omega.{arith}
-use lib.Dec.{leb}
-use lib.ListN.{length, getD, take, drop, length-append, length-drop}
+use lib.ListN.{length, take, drop, length-append, length-drop}
 use lib.Seq.{take-at, take-all}
-use borrow.Author.Tests.{leb-true, leb-false}
-use Rattle.basics.specs.Choice.{pick}
 use Rattle.basics.specs.Outcome.{Outcome, done, refused}
 use Rattle.basics.proofs.Tests.{both, and-intro}
-use Rattle.records.specs.Kinds.{Shape, shapeOf}
-use Rattle.records.specs.Records.{Standing, stands, over, recordAt, bodied, decodeAt}
+use Rattle.records.specs.Records.{Standing, stands, over, recordAt}
 use Rattle.records.specs.Bytes.{recordBytes, kindFits}
 use Rattle.records.specs.declared.instructions.Record.{Record}
-use Rattle.records.proofs.Standings.{at-end}
+use Rattle.records.proofs.Standings.{at-end, over-end, refused-here}
 use Rattle.records.proofs.RoundTrip.{Back, round-trip, rest-behind, back-length, reads-back}
 use Rattle.walk.specs.Walks.{movedTo, placeAfter, Walked, hands, ends, refuses, onward, walkFrom, walkOf, Goes}
 use Rattle.walk.specs.Walks.{handed, stopsAt, finishes, allBytes, allFit, handsOut}
-
--- What stands at a place
-
-module _ (s : List ℕ) (at : ℕ) where
-  -- nothing is over before the end, and a refusal is of the place that was asked
-  abbrev Stops : Outcome Standing → Type 0
-  Stops (done (stands r next)) = Unit {0}
-  Stops (done over) = length s ≤ at
-  Stops (refused number place) = (place ≡ at) × (at < length s)
-
-  stops : Stops (recordAt s at)
-  unfolding recordAt
-  stops = ended (leb (length s) at) refl
-    where
-      known : (o : Option Shape) → at < length s → Stops (bodied s at o)
-      known none l = (refl, l)
-      known (some h) l = cut (leb (length s - at) (h .body))
-        where
-          cut : (b : Bool) → Stops (pick b (refused 2 at) (done (stands (decodeAt (h .form) s at) (at + 1 + h .body))))
-          cut true = (refl, l)
-          cut false = tt
-
-      ended : (b : Bool) → leb (length s) at ≡ b → Stops (pick b (done over) (bodied s at (shapeOf (getD s at 0))))
-      ended true e = leb-true (length s) at e
-      ended false e = known (shapeOf (getD s at 0)) (leb-false (length s) at e)
 
 -- The walk goes by what stands
 
@@ -60,7 +30,7 @@ walk-from s (suc left) at l = go (λ next m. walk-from s left next m) (recordAt 
         let moved : placeAfter s at ≡ next = ap (movedTo at) e in
         (refl, rw moved e, rw moved (rest next (omega arith)))
     go rest (done over) e = (refl, e)
-    go rest (refused number place) e = (subst (Stops s at) e (stops s at) .0, e)
+    go rest (refused number place) e = (refused-here s at e .0, e)
 
 -- from the start: each record at its place, the next one where the walk moves to, up to the end or the first fault
 pub walk-goes : (s : List ℕ) → Goes s 0 (walkOf s)
@@ -97,7 +67,7 @@ kinds-fit s at (refuses number place) g = refl
 -- a walk that comes to the end leaves nothing
 nothing-left : (s : List ℕ) (at : ℕ) (w : Walked) → Goes s at w → finishes w ≡ true → length s ≤ stopsAt w
 nothing-left s at (hands place r w) (e, stood, g) f = nothing-left s (placeAfter s at) w g f
-nothing-left s at (ends place) (e, stood) f = let l = subst (Stops s at) stood (stops s at) in omega arith
+nothing-left s at (ends place) (e, stood) f = let l = over-end s at stood in omega arith
 nothing-left s at (refuses number place) g f = absurd (false≢true f)
 
 -- the bytes of the records that are handed out, joined, are the bytes walked

@@ -92,7 +92,7 @@ module _ (s list : List ℕ) {told : Circuit} (a : Accepted s told) where
         ∙ ap (λ (o : Outcome Static). fitted room (outputOf (lendersIn (g .pairs)) o)) (sym (a .is))
 
     allowed : Allowed (circuitOf (a .circuit)) (g .pairs)
-    allowed = pairs-allowed s list (a .circuit) g (a .is) e
+    allowed = pairs-allowed s list (a .circuit) (a .is) g e
 
     wired : Wired (a .circuit)
     wired = read-wired s (a .is)

@@ -8,7 +8,7 @@ use lib.ListN.{length}
 use Rattle.basics.specs.Outcome.{handing}
 use Rattle.table.specs.Calls.{replied}
 use Rattle.pairs.specs.Listing.{foundPair}
-use Rattle.pairs.proofs.PairTurns.{Going, going-start, going-end, going-refused, going-untaken, going-on, pair-place}
+use Rattle.pairs.proofs.PairTurns.{Going, going-start, going-end, going-refused, going-untaken, going-on, pair-back}
 use Rattle.pairs.proofs.listing.read_pairs.Statement.{statement}
 use Rattle.pairs.proofs.listing.read_pairs.Tie as tie
 
@@ -67,10 +67,10 @@ with-pair-requires : tie.Need-with-pair-requires Inv-loop μ-loop
 with-pair-requires c κs = search needs
 
 add-index : tie.Need-add-index Inv-loop μ-loop
-add-index c = omega (arith, c .before .before .before .before .before .before .before .before .before .loop .inv .onward, c .before .before .before .before .before .before .before .before .before .loop .inv .inside, pair-place _ _ _ (sym (c .before .before .before .before .before .before .before .before .pair-at .ensures) ∙ ap foundPair (c .before .before .before .before .before .before .lender .given .1)) .0)
+add-index c = omega (arith, c .before .before .before .before .before .before .before .before .before .loop .inv .onward, c .before .before .before .before .before .before .before .before .before .loop .inv .inside, pair-back _ _ _ (sym (c .before .before .before .before .before .before .before .before .pair-at .ensures) ∙ ap foundPair (c .before .before .before .before .before .before .lender .given .1)) .past)
 
 loop-less : tie.Need-loop-less Inv-loop μ-loop
-loop-less c = omega (arith, c .before .before .before .before .before .before .before .before .before .loop .inv .inside, pair-place _ _ _ (sym (c .before .before .before .before .before .before .before .before .pair-at .ensures) ∙ ap foundPair (c .before .before .before .before .before .before .lender .given .1)))
+loop-less c = omega (arith, c .before .before .before .before .before .before .before .before .before .loop .inv .inside, pair-back _ _ _ (sym (c .before .before .before .before .before .before .before .before .pair-at .ensures) ∙ ap foundPair (c .before .before .before .before .before .before .lender .given .1)) .past, pair-back _ _ _ (sym (c .before .before .before .before .before .before .before .before .pair-at .ensures) ∙ ap foundPair (c .before .before .before .before .before .before .lender .given .1)) .within)
 
 loop-again : tie.Need-loop-again Inv-loop μ-loop
 loop-again c =

@@ -1,13 +1,13 @@
--- The order of a pair list does not matter to what may be added to it: what is maximal with the latest pair first is so in the order
--- chosen. Assumes nothing.
+-- The order of a pair list does not matter: what is allowed, or maximal, with the latest pair first is so in the order chosen, and the
+-- pairs before a pair are allowed without it. Assumes nothing.
 use Prim.Native.Nat.{ℕ}
 use mathlib.Core.Path.{_≡_, refl, sym, subst, _∙_}
 use mathlib.Core.Logic.{_⊎_, inl, inr}
 use mathlib.Core.List.{List, [], _∷_, _++_, reverse, reverseAux, append-nil}
 use Rattle.orders.specs.Indices.{In, Once}
 use Rattle.orders.specs.Runs.{Circuit, Pair, Allowed, SamePairs, lendersOf, takersOf}
 use Rattle.orders.specs.Rounds.{Maximal}
-use Rattle.orders.proofs.Runs.{runs-same}
+use Rattle.orders.proofs.Runs.{runs-dropped, runs-same}
 
 -- ---- what stands in a list that is turned
 
@@ -59,12 +59,33 @@ module _ (C : Circuit) where
     runs = runs-same C ps qs same .0 (a .runs);
   }
 
-  module _ (ps : List Pair) (max : Maximal C ps) where
+  -- a pair dropped, the others are still allowed
+  allowed-dropped : (p : Pair) (ps : List Pair) → Allowed C (p ∷ ps) → Allowed C ps
+  allowed-dropped p ps a = record {
+    between = λ l t h. a .between l t (inr h);
+    lend-once = a .lend-once .1;
+    take-once = a .take-once .1;
+    runs = runs-dropped C p ps (a .runs);
+  }
+
+  -- so are they with the pairs of a longer list left out that came later
+  pub allowed-before : (ps qs : List Pair) → Allowed C (reverseAux ps qs) → Allowed C qs
+  allowed-before [] qs a = a
+  allowed-before (p ∷ ps) qs a = allowed-dropped p qs (allowed-before ps (p ∷ qs) a)
+
+  module _ (ps : List Pair) where
     same : SamePairs ps (reverse ps)
     same l t = (λ h. turned-in (l, t) ps [] (inl h), λ h. elim (in-turned (l, t) ps [] h) [ inl k ↦ k | inr k ↦ absurd k ])
 
     once : (xs : List ℕ) → Once xs → Once (reverse xs)
     once xs o = once-turned xs [] o tt (λ a h k. k)
+
+    pub allowed-turned : Allowed C ps → Allowed C (reverse ps)
+    allowed-turned a =
+        allowed-same ps (reverse ps) same
+        (subst (λ (xs : List ℕ). Once xs) (sym (lenders-turned ps [])) (once (lendersOf ps) (a .lend-once)))
+        (subst (λ (xs : List ℕ). Once xs) (sym (takers-turned ps [])) (once (takersOf ps) (a .take-once)))
+        a
 
     -- a lender, or a taker, that is new to the turned list is new to the list
     new-to : (x : ℕ) (xs ys : List ℕ) → ys ≡ reverse xs → (In x ys → ⊥) → In x xs → ⊥
@@ -76,13 +97,9 @@ module _ (C : Circuit) where
       λ h. elim h [ inl e ↦ inl e | inr k ↦ inr (same u v .0 k) ],
     )
 
-    pub maximal-turned : Maximal C (reverse ps)
-    maximal-turned = record {
-      allowed =
-          allowed-same ps (reverse ps) same
-          (subst (λ (xs : List ℕ). Once xs) (sym (lenders-turned ps [])) (once (lendersOf ps) (max .allowed .lend-once)))
-          (subst (λ (xs : List ℕ). Once xs) (sym (takers-turned ps [])) (once (takersOf ps) (max .allowed .take-once)))
-          (max .allowed);
+    pub maximal-turned : Maximal C ps → Maximal C (reverse ps)
+    maximal-turned max = record {
+      allowed = allowed-turned (max .allowed);
       no-more = λ l t a.
           max .no-more l t
           (allowed-same ((l, t) ∷ reverse ps) ((l, t) ∷ ps) (more l t)
