@@ -1,3 +1,4 @@
 pub mod PairTurns
 pub mod ListForms
 pub mod PairLaws
+pub mod FirstPairs

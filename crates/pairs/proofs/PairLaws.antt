@@ -39,14 +39,14 @@ pub record Whole (o : Outcome Growing) (pairs : List Pair) : Type 0 where
 
 module _ (C : Circuit) (law : Lawful C) where
   -- a table that is exact for its pairs, of a width that document 01 takes
-  abbrev Sound : Growing → Type 0
+  abbrev pub Sound : Growing → Type 0
   Sound g = orders.Grown C (stateOf g) × Right (g .table)
 
   one-grown : (p : Pair) (s : orders.State) → orders.Grown C s → orders.Grown C (orders.offer p s)
   unfolding orders.offers
   one-grown p s k = offers-grown C law (p ∷ []) s k
 
-  offer-sound : (p : Pair) (g : Growing) → Sound g → Sound (offerTo p g)
+  pub offer-sound : (p : Pair) (g : Growing) → Sound g → Sound (offerTo p g)
   offer-sound p g h = (
     subst (orders.Grown C) (sym (offer-state p g (h .1) (counts (g .table) (p .0) (p .1)) refl)) (one-grown p (stateOf g) (h .0)),
     offer-right p g (h .1),
@@ -127,10 +127,10 @@ module _ (C : Circuit) (law : Lawful C) where
       go (refused m o) z behind n q e = let r = pair-refusal s at index z in told (r .0) (ap (λ (x : ℕ). refused m x) (sym (r .1)) ∙ e)
 
 module _ (s list : List ℕ) (c : Static) (e : readCircuit s ≡ done c) where
-  law : Lawful (circuitOf c)
+  pub law : Lawful (circuitOf c)
   law = circuit-lawful c (read-wired s e)
 
-  at-start : Sound (circuitOf c) law (grownFrom c)
+  pub at-start : Sound (circuitOf c) law (grownFrom c)
   at-start = (start-exact (circuitOf c) law (view (startTable c)) (start-view s c e), start-width s c e [])
 
   -- an accepted list

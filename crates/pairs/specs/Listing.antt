@@ -1,5 +1,5 @@
 -- What any byte string is as a pair list against a table: the pairs, each taken in turn, or a refusal at a pair's index.
-use Prim.Native.Nat.{ℕ, zero, suc, _+_}
+use Prim.Native.Nat.{ℕ, zero, suc, _+_, _*_}
 use mathlib.Core.Path.{_≡_}
 use mathlib.Core.Bool.{Bool, true, false}
 use mathlib.Core.List.{List, [], _∷_, _++_}
@@ -16,6 +16,7 @@ use Rattle.records.specs.declared.instructions.Record.{Record}
 use Rattle.records.specs.declared.kinds.Form.{Form}
 use Rattle.records.specs.declared.kinds.Form.the-variants as form
 use Rattle.records.specs.declared.instructions.Record.the-variants.{StaticWidth, DynamicWidth, Step, Reuse}
+use Rattle.circuits.specs.Limits.{mostWires}
 use Rattle.table.specs.Calls.{offered}
 use Rattle.table.specs.Growing.{Growing}
 use Rattle.table.specs.declared.tables.Table.{Table}
@@ -53,6 +54,10 @@ pairRecord p = Reuse (wire (p .0)) (wire (p .1))
 unfoldable pub pairsBytes : List Pair → List ℕ
 pairsBytes [] = []
 pairsBytes (p ∷ ps) = recordBytes (pairRecord p) ++ pairsBytes ps
+
+-- so many first bytes decide a list: a record for each wire, and an accepted list has fewer
+abbrev pub decidingListBytes : ℕ
+decidingListBytes = 3 * mostWires
 
 -- a pair list that is well formed, the records of pairs, and its pairs meet the three conditions of Theorem 1
 pub record AllowedList (C : Circuit) (list : List ℕ) : Type 0 where
