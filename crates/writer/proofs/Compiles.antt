@@ -4,10 +4,10 @@ use mathlib.Core.Path.{_≡_, refl, sym, ap, subst, _∙_}
 use mathlib.Core.List.{List}
 use native.Mathlib.Omega.{arith}
 use lib.ListN.{length}
-use Rattle.basics.specs.Outcome.{Outcome, done, refused, beside}
+use Rattle.basics.specs.Outcome.{Outcome, done, refused, handing, beside}
 use Rattle.basics.proofs.Outcomes.{not-refused}
-use Rattle.writing.specs.Writing.{Settled, fitted}
-use Rattle.writing.proofs.Puts.{settled-refused, fitted-done, fitted-refused}
+use Rattle.writing.specs.Writing.{Wrote, holding}
+use Rattle.writing.proofs.Puts.{fitted-done, fitted-refused}
 use Rattle.orders.specs.Runs.{Allowed, SamePairs}
 use Rattle.circuits.specs.Reading.{Static, readCircuit}
 use Rattle.circuits.specs.declared.circuit.Circuit.{Circuit}
@@ -25,8 +25,10 @@ use Rattle.pairs.specs.declared.listing.Paired.{Paired}
 use Rattle.pairs.specs.declared.listing.Pairs.the-variants as answer
 use Rattle.records.specs.declared.answers.Refusal.{Refusal}
 use Rattle.pairs.proofs.PairLaws.{pairs-allowed}
-use Rattle.writer.specs.Outputs.{outputOf}
-use Rattle.writer.specs.Compiling.{writtenFor, compiledFrom, compiled}
+use Rattle.writer.specs.Chains.{qubits}
+use Rattle.writer.specs.Outputs.{output, outputOf}
+use Rattle.writer.specs.Compiling.{Dynamic, dynamic, dynamicOf, inRoom, writtenFor, compiledFrom, compiled, bytesOf, countsOf, Compiled}
+use Rattle.writer.specs.declared.compiling.Counts.{Counts}
 use Rattle.writer.proofs.Listed.{same-pairs}
 use Rattle.writer.proofs.Allowed.{list-length}
 
@@ -44,29 +46,46 @@ list-refused t (refused n q) e {r} a =
     let c : r .place ≡ q = cc in
     cc
 
--- the pairs of an accepted list, and their lenders
-record Listed (o : Outcome Growing) (p : Paired) : Type 0 where
+-- the pairs of an accepted list, how many they are, and their lenders
+record Listed (o : Outcome Growing) (p : Paired) (count : ℕ) : Type 0 where
   pub growing : Growing
   pub is : o ≡ done growing
+  pub counted : count ≡ length (growing .pairs)
   pub lenders : p .lenders .lenders ≡ lendersIn (growing .pairs)
 
-list-accepted : (t : Table) (o : Outcome Growing) {p : Paired} → p ≡ pairsTold t o → {n : ℕ} → p .answer ≡ answer.Accepted n → Listed o p
-list-accepted t (done g) e a = record { growing = g; is = refl; lenders = ap (λ (p : Paired). p .lenders .lenders) e }
+list-accepted : (t : Table) (o : Outcome Growing) {p : Paired} → p ≡ pairsTold t o → {n : ℕ} → p .answer ≡ answer.Accepted n → Listed o p n
+list-accepted t (done g) e {n} a = record {
+  growing = g;
+  is = refl;
+  counted = let z : done n ≡ done (length (g .pairs)) = sym (ap pairedOf a) ∙ answered-as t (done g) e in cc;
+  lenders = ap (λ (p : Paired). p .lenders .lenders) e;
+}
 list-accepted t (refused n q) e a = absurd (not-refused (sym (answered-as t (refused n q) e) ∙ ap pairedOf a))
 
 -- ## Room
 
--- one byte more than a circuit has is asked for
-module _ (old circuit bytes : List ℕ) (size : length bytes ≡ length circuit + 1) where
-  pub room-short : length old ≤ length circuit → Settled old (fitted (length old) bytes) (refused 31 (length circuit + 1)) old
-  room-short h = settled-refused (fitted-refused (length old) bytes (omega (arith, size)) ∙ ap (refused 31) size)
+-- a refusal stores nothing
+pub compiled-refused : {old : List ℕ} {o : Outcome Dynamic} {n p : ℕ} → o ≡ refused n p → Compiled old o (refused n p) old
+compiled-refused {old} e = record { tells = ap countsOf (sym e); leaves = ap (λ (o : Outcome Dynamic). holding old (bytesOf o)) (sym e) }
 
-  pub room-enough : length circuit < length old → fitted (length old) bytes ≡ done bytes
-  room-enough h = fitted-done (length old) bytes (omega (arith, size))
+-- one byte more than a circuit has is asked for
+module _ (old circuit : List ℕ) (d : Dynamic) (size : length (d .bytes) ≡ length circuit + 1) where
+  pub room-short : length old ≤ length circuit → Compiled old (inRoom (length old) d) (refused 31 (length circuit + 1)) old
+  room-short h = compiled-refused (ap (handing d) (fitted-refused (length old) (d .bytes) (omega (arith, size))) ∙ ap (refused 31) size)
+
+  pub room-enough : length circuit < length old → {told qubits : ℕ} {new : List ℕ} → Wrote old 0 (d .bytes) new told → qubits ≡ d .qubits
+      → Compiled old (inRoom (length old) d) (done (record { bytes = told; qubits = qubits; pairs = d .pairs })) new
+  room-enough h {told} w q =
+      let e : inRoom (length old) d ≡ done d = ap (handing d) (fitted-done (length old) (d .bytes) (omega (arith, size))) in
+      let z : told ≡ length (d .bytes) = omega (arith, w .end) in
+      record {
+        tells = (λ i. done (record { bytes = z i; qubits = q i; pairs = d .pairs })) ∙ ap countsOf (sym e);
+        leaves = w .holds ∙ ap (λ (o : Outcome Dynamic). holding old (bytesOf o)) (sym e);
+      }
 
 -- what is settled is settled as what is equal to it
-pub settled-as : {old new : List ℕ} {o q : Outcome (List ℕ)} {told : Outcome ℕ} → o ≡ q → Settled old o told new → Settled old q told new
-settled-as {old} {new} {o} {q} {told} e h = subst (λ (r : Outcome (List ℕ)). Settled old r told new) e h
+pub compiled-to : {old new : List ℕ} {o q : Outcome Dynamic} {told : Outcome Counts} → o ≡ q → Compiled old o told new → Compiled old q told new
+compiled-to {old} {new} {o} {q} {told} e h = subst (λ (r : Outcome Dynamic). Compiled old r told new) e h
 
 -- ## What is written
 
@@ -84,12 +103,9 @@ module _ (s list : List ℕ) {told : Circuit} (a : Accepted s told) where
   pair-refused room e = ap (compiledFrom room list) (a .is) ∙ ap (writtenFor room (a .circuit)) e
 
   module _ (g : Growing) (e : readPairs (startTable (a .circuit)) list ≡ done g) where
-    compiled-as : (room : ℕ) → compiled s list room ≡ fitted room (outputOf (lendersIn (g .pairs)) (readCircuit s))
+    compiled-as : (room : ℕ) → compiled s list room ≡ inRoom room (dynamicOf (a .circuit) (g .pairs))
     unfolding compiled
-    compiled-as room =
-        ap (compiledFrom room list) (a .is)
-        ∙ ap (writtenFor room (a .circuit)) e
-        ∙ ap (λ (o : Outcome Static). fitted room (outputOf (lendersIn (g .pairs)) o)) (sym (a .is))
+    compiled-as room = ap (compiledFrom room list) (a .is) ∙ ap (writtenFor room (a .circuit)) e
 
     allowed : Allowed (circuitOf (a .circuit)) (g .pairs)
     allowed = pairs-allowed s list (a .circuit) (a .is) g e
@@ -114,14 +130,21 @@ module _ (s list : List ℕ) {told : Circuit} (a : Accepted s told) where
     told-refused e room = pair-refused room (from-start (list-refused t (readPairs t list) told-of e))
 
     module _ {n : ℕ} (e : p .answer ≡ answer.Accepted n) where
-      listed : Listed (readPairs t list) p
+      listed : Listed (readPairs t list) p n
       listed = list-accepted t (readPairs t list) told-of e
 
       pub told-length : length (outputOf (p .lenders .lenders) (readCircuit s)) ≡ length s + 1
       told-length =
           ap (λ (ls : List ℕ). length (outputOf ls (readCircuit s))) (listed .lenders) ∙ compiled-length (listed .growing) (from-start (listed .is))
 
-      pub told-accepted : (room : ℕ) → fitted room (outputOf (p .lenders .lenders) (readCircuit s)) ≡ compiled s list room
+      pub told-accepted : (room : ℕ)
+          → inRoom room (dynamic (outputOf (p .lenders .lenders) (readCircuit s)) (qubits (p .lenders .lenders) (told .width)) n) ≡ compiled s list room
       told-accepted room =
-          ap (λ (ls : List ℕ). fitted room (outputOf ls (readCircuit s))) (listed .lenders)
+          ap (λ (ls : List ℕ). inRoom room (dynamic (outputOf ls (readCircuit s)) (qubits ls (told .width)) n)) (listed .lenders)
+          ∙ ap (λ (o : Outcome Static). inRoom room (dynamic (outputOf lenders o) (qubits lenders (told .width)) n)) (a .is)
+          ∙ ap (λ (w : ℕ). inRoom room (dynamic (output lenders (a .circuit)) (qubits lenders w) n)) (a .width)
+          ∙ ap (λ (k : ℕ). inRoom room (dynamic (output lenders (a .circuit)) (qubits lenders (a .circuit .width)) k)) (listed .counted)
           ∙ sym (compiled-as (listed .growing) (from-start (listed .is)) room)
+        where
+          lenders : List ℕ
+          lenders = lendersIn (listed .growing .pairs)

@@ -1,5 +1,6 @@
 // The compiler: the reader's refusal, the first refused pair, 31, or the dynamic circuit. Nothing is stored before all are
 // accepted and there is room.
+use crate::chaining::qubits_for;
 use crate::dynamic::write_dynamic;
 use circuits::Circuit;
 use circuits::Reading;
@@ -12,22 +13,34 @@ ghost use Prim.Native.Nat.{_+_};
 ghost use mathlib.Core.Path.{_≡_};
 ghost use lib.ListN.{length};
 ghost use Rattle.basics.specs.Outcome.{done};
-ghost use Rattle.writing.specs.Writing.{Settled, fitted};
 ghost use Rattle.circuits.specs.Reading.{readCircuit, summary};
+ghost use Rattle.writer.specs.Chains.{qubits};
 ghost use Rattle.writer.specs.Outputs.{outputOf};
-ghost use Rattle.writer.specs.Compiling.{compiled, compilingOf};
+ghost use Rattle.writer.specs.Compiling.{dynamic, inRoom, compiled, compilingOf, Compiled};
+
+// How many bytes were written, and how many qubits and pairs the dynamic circuit has.
+pub struct Counts {
+    pub bytes: usize,
+    pub qubits: u8,
+    pub pairs: usize,
+}
 
 pub enum Compiling {
-    // How many bytes were written.
-    Done(usize),
+    Done(Counts),
     Refused(Refusal),
 }
 
 // Writes the dynamic circuit where there is room for it: one byte more than the circuit has.
-fn write_in_room(circuit: &[u8], valid: Circuit, lenders: Lenders, out: &mut [u8]) -> Compiling
+fn write_in_room(
+    circuit: &[u8],
+    valid: Circuit,
+    lenders: Lenders,
+    pairs: usize,
+    out: &mut [u8],
+) -> Compiling
     requires { ⌜ done valid ≡ summary (readCircuit (now circuit)) ⌝ }
     requires { ⌜ length (outputOf (lenders .lenders) (readCircuit (now circuit))) ≡ length (now circuit) + 1 ⌝ }
-    ensures { λ r. ⌜ Settled (now (out .entry)) (fitted (length (now (out .entry))) (outputOf (lenders .lenders) (readCircuit (now (circuit .entry))))) (compilingOf r) (now (out .exit)) ⌝ }
+    ensures { λ r. ⌜ Compiled (now (out .entry)) (inRoom (length (now (out .entry))) (dynamic (outputOf (lenders .lenders) (readCircuit (now (circuit .entry)))) (qubits (lenders .lenders) (valid .width)) pairs)) (compilingOf r) (now (out .exit)) ⌝ }
 {
     if out.len() <= circuit.len() {
         return Compiling::Refused(Refusal {
@@ -35,12 +48,18 @@ fn write_in_room(circuit: &[u8], valid: Circuit, lenders: Lenders, out: &mut [u8
             place: circuit.len() + 1,
         });
     }
-    Compiling::Done(write_dynamic(circuit, valid, lenders, out))
+    let bytes = write_dynamic(circuit, valid, lenders, out);
+    let qubits = qubits_for(lenders, valid.width);
+    Compiling::Done(Counts {
+        bytes,
+        qubits,
+        pairs,
+    })
 }
 
 // Writes the dynamic circuit of a circuit and a pair list from the start of the buffer.
 pub fn compile(circuit: &[u8], list: &[u8], out: &mut [u8]) -> Compiling
-    ensures { λ r. ⌜ Settled (now (out .entry)) (compiled (now (circuit .entry)) (now (list .entry)) (length (now (out .entry)))) (compilingOf r) (now (out .exit)) ⌝ }
+    ensures { λ r. ⌜ Compiled (now (out .entry)) (compiled (now (circuit .entry)) (now (list .entry)) (length (now (out .entry)))) (compilingOf r) (now (out .exit)) ⌝ }
 {
     match read(circuit) {
         Reading::Refused(r) => Compiling::Refused(r),
@@ -49,7 +68,7 @@ pub fn compile(circuit: &[u8], list: &[u8], out: &mut [u8]) -> Compiling
             let answer = paired.answer;
             match answer {
                 Pairs::Refused(r) => Compiling::Refused(r),
-                Pairs::Accepted(_) => write_in_room(circuit, valid, paired.lenders, out),
+                Pairs::Accepted(count) => write_in_room(circuit, valid, paired.lenders, count, out),
             }
         }
     }

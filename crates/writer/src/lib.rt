@@ -8,4 +8,5 @@ mod renaming;
 mod seeking;
 
 pub use compiling::Compiling;
+pub use compiling::Counts;
 pub use compiling::compile;

@@ -2,10 +2,9 @@
 -- Assumes nothing.
 use mathlib.Core.Path.{sym, ap, _∙_}
 use borrow.Author.Needs.{needs}
-use Rattle.writing.proofs.Puts.{settled-refused}
 use Rattle.circuits.specs.Reading.{readingOf}
 use Rattle.circuits.proofs.Rewrites.{accepted, turned-away}
-use Rattle.writer.proofs.Compiles.{settled-as, circuit-refused, told-refused, told-length, told-accepted}
+use Rattle.writer.proofs.Compiles.{compiled-refused, compiled-to, circuit-refused, told-refused, told-length, told-accepted}
 use Rattle.writer.proofs.compiling.compile.Statement.{statement}
 use Rattle.writer.proofs.compiling.compile.Tie as tie
 
@@ -27,30 +26,30 @@ read-pairs-requires c κs = search needs
 enum-known-answer : tie.Need-enum-known-answer
 enum-known-answer c = search needs
 
-enum-told : tie.Need-enum-told
-enum-told c = search needs
+enum-known-answer-2 : tie.Need-enum-known-answer-2
+enum-known-answer-2 c = search needs
 
 write-in-room-requires : tie.Need-write-in-room-requires
 write-in-room-requires c κs =
-    let known = sym (ap readingOf (c .before .before .before .before .before .before .valid .given .1)) ∙ c .before .before .before .before .before .before .before .before .read .ensures in
-    (known, told-length _ (c .before .before .before .before .before .before .before .before .before .before .before .before .args .list .now) (accepted _ known) (c .before .before .before .before .start .ensures .1) (c .before .before .before .read-pairs .ensures) (c .before .enum-told .given .1))
+    let known = sym (ap readingOf (c .before .before .before .before .before .before .before .valid .given .1)) ∙ c .before .before .before .before .before .before .before .before .before .read .ensures in
+    (known, told-length _ (c .before .before .before .before .before .before .before .before .before .before .before .before .before .args .list .now) (accepted _ known) (c .before .before .before .before .before .start .ensures .1) (c .before .before .before .before .read-pairs .ensures) (c .before .before .answer2 .given .1))
 
 returns : tie.Need-returns
-returns c = settled-refused (circuit-refused _ _ _ (turned-away _ (sym (ap readingOf (c .before .r .given .1)) ∙ c .before .before .before .read .ensures)))
+returns c = compiled-refused (circuit-refused _ _ _ (turned-away _ (sym (ap readingOf (c .before .r .given .1)) ∙ c .before .before .before .read .ensures)))
 
 returns-2 : tie.Need-returns-2
 returns-2 c =
     let a = accepted _ (sym (ap readingOf (c .before .before .before .before .before .before .valid .given .1)) ∙ c .before .before .before .before .before .before .before .before .read .ensures) in
-    settled-refused (told-refused _ _ a (c .before .before .before .before .start .ensures .1) (c .before .before .before .read-pairs .ensures) (c .before .answer .given .1) _)
+    compiled-refused (told-refused _ _ a (c .before .before .before .before .start .ensures .1) (c .before .before .before .read-pairs .ensures) (c .before .answer .given .1) _)
 
 same-length : tie.Need-same-length
 same-length c = search needs
 
 returns-3 : tie.Need-returns-3
 returns-3 c =
-    let a = accepted _ (sym (ap readingOf (c .before .before .before .before .before .before .before .before .before .valid .given .1)) ∙ c .before .before .before .before .before .before .before .before .before .before .before .read .ensures) in
-    settled-as
-    (told-accepted _ _ a (c .before .before .before .before .before .before .before .start .ensures .1) (c .before .before .before .before .before .before .read-pairs .ensures) (c .before .before .before .before .enum-told .given .1) _)
+    let a = accepted _ (sym (ap readingOf (c .before .before .before .before .before .before .before .before .before .before .valid .given .1)) ∙ c .before .before .before .before .before .before .before .before .before .before .before .before .read .ensures) in
+    compiled-to
+    (told-accepted _ _ a (c .before .before .before .before .before .before .before .before .start .ensures .1) (c .before .before .before .before .before .before .before .read-pairs .ensures) (c .before .before .before .before .before .answer2 .given .1) _)
     (c .before .before .write-in-room .ensures)
 
 pub compile-spec : {M : Type 1} → statement M
@@ -63,7 +62,7 @@ compile-spec =
     start-requires
     read-pairs-requires
     enum-known-answer
-    enum-told
+    enum-known-answer-2
     write-in-room-requires
     returns
     returns-2
