@@ -74,15 +74,15 @@ module _ (C : Circuit) where
   allowed-before (p ∷ ps) qs a = allowed-dropped p qs (allowed-before ps (p ∷ qs) a)
 
   module _ (ps : List Pair) where
-    same : SamePairs ps (reverse ps)
-    same l t = (λ h. turned-in (l, t) ps [] (inl h), λ h. elim (in-turned (l, t) ps [] h) [ inl k ↦ k | inr k ↦ absurd k ])
+    pub same-turned : SamePairs ps (reverse ps)
+    same-turned l t = (λ h. turned-in (l, t) ps [] (inl h), λ h. elim (in-turned (l, t) ps [] h) [ inl k ↦ k | inr k ↦ absurd k ])
 
     once : (xs : List ℕ) → Once xs → Once (reverse xs)
     once xs o = once-turned xs [] o tt (λ a h k. k)
 
     pub allowed-turned : Allowed C ps → Allowed C (reverse ps)
     allowed-turned a =
-        allowed-same ps (reverse ps) same
+        allowed-same ps (reverse ps) same-turned
         (subst (λ (xs : List ℕ). Once xs) (sym (lenders-turned ps [])) (once (lendersOf ps) (a .lend-once)))
         (subst (λ (xs : List ℕ). Once xs) (sym (takers-turned ps [])) (once (takersOf ps) (a .take-once)))
         a
@@ -93,8 +93,8 @@ module _ (C : Circuit) where
 
     more : (l t : ℕ) → SamePairs ((l, t) ∷ reverse ps) ((l, t) ∷ ps)
     more l t u v = (
-      λ h. elim h [ inl e ↦ inl e | inr k ↦ inr (same u v .1 k) ],
-      λ h. elim h [ inl e ↦ inl e | inr k ↦ inr (same u v .0 k) ],
+      λ h. elim h [ inl e ↦ inl e | inr k ↦ inr (same-turned u v .1 k) ],
+      λ h. elim h [ inl e ↦ inl e | inr k ↦ inr (same-turned u v .0 k) ],
     )
 
     pub maximal-turned : Maximal C ps → Maximal C (reverse ps)

@@ -39,7 +39,7 @@ in-takers [] l t h = absurd h
 in-takers (p ∷ ps) l t (inl e) = inl (ap (λ (q : Pair). q .1) e)
 in-takers (p ∷ ps) l t (inr h) = inr (in-takers ps l t h)
 
-taker-in : (ps : List Pair) (t : ℕ) → In t (takersOf ps) → (l : ℕ) × In (l, t) ps
+pub taker-in : (ps : List Pair) (t : ℕ) → In t (takersOf ps) → (l : ℕ) × In (l, t) ps
 taker-in [] t h = absurd h
 taker-in (p ∷ ps) t (inl e) = (p .0, inl (ap (λ z. (p .0, z)) e))
 taker-in (p ∷ ps) t (inr h) = let r = taker-in ps t h in (r .0, inr (r .1))

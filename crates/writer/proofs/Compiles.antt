@@ -98,12 +98,12 @@ module _ (s list : List ℕ) {told : Circuit} (a : Accepted s told) where
   table-is : {t : Table} → t ≡ beside emptyTable (started s) → t ≡ startTable (a .circuit)
   table-is e = e ∙ ap (λ (o : Outcome Static). beside emptyTable (tableAtStart o)) (a .is)
 
-  pair-refused : (room : ℕ) {n p : ℕ} → readPairs (startTable (a .circuit)) list ≡ refused n p → compiled s list room ≡ refused n p
+  pub pair-refused : (room : ℕ) {n p : ℕ} → readPairs (startTable (a .circuit)) list ≡ refused n p → compiled s list room ≡ refused n p
   unfolding compiled
   pair-refused room e = ap (compiledFrom room list) (a .is) ∙ ap (writtenFor room (a .circuit)) e
 
   module _ (g : Growing) (e : readPairs (startTable (a .circuit)) list ≡ done g) where
-    compiled-as : (room : ℕ) → compiled s list room ≡ inRoom room (dynamicOf (a .circuit) (g .pairs))
+    pub compiled-as : (room : ℕ) → compiled s list room ≡ inRoom room (dynamicOf (a .circuit) (g .pairs))
     unfolding compiled
     compiled-as room = ap (compiledFrom room list) (a .is) ∙ ap (writtenFor room (a .circuit)) e
 

@@ -11,4 +11,5 @@ pub mod Outputs
 pub mod Allowed
 pub mod Listed
 pub mod Compiles
+pub mod Exactly
 pub mod Worked

@@ -8,14 +8,15 @@ use native.Mathlib.Omega.{arith}
 use borrow.Author.Tests.{ltb-true, lt-ltb}
 use lib.Dec.{ltb}
 use lib.ListN.{length, length-set, length-replicate, getD-replicate}
-use lib.Seq.{getD-set-same, getD-set-other}
+use lib.Seq.{getD-set-same, getD-set-other, ext-getD}
 use Rattle.basics.proofs.Tests.{same-or-other}
 use Rattle.orders.specs.Indices.{In, Once}
 use Rattle.orders.specs.Runs.{Pair, SamePairs, takersOf}
+use Rattle.orders.proofs.Indices.{in-or-out}
 use Rattle.circuits.specs.Limits.{mostWires}
 use Rattle.pairs.specs.Lending.{nobody, lenderOf, lendersIn, takes, pairsOf}
 use Rattle.writer.proofs.Pairs.{pair-in, pair-says}
-use Rattle.writer.proofs.Allowed.{in-takers}
+use Rattle.writer.proofs.Allowed.{in-takers, taker-in}
 
 -- the takers are wires
 abbrev pub TakersLow : List Pair → Type 0
@@ -51,6 +52,26 @@ in-listed (p ∷ ps) once low l t (inl e) =
 in-listed (p ∷ ps) once low l t (inr h) =
     lender-other p ps t (λ e. once .0 (subst (λ z. In z (takersOf ps)) e (in-takers ps l t h)))
     ∙ in-listed ps (once .1) (λ x y k. low x y (inr k)) l t h
+
+-- one that takes from nobody has nobody there
+out-listed : (ps : List Pair) (t : ℕ) → t < mostWires → ¬ In t (takersOf ps) → lenderOf (lendersIn ps) t ≡ nobody
+out-listed [] t l h = lender-nobody t l
+out-listed (p ∷ ps) t l h = lender-other p ps t (λ e. h (inl e)) ∙ out-listed ps t l (λ k. h (inr k))
+
+-- THEOREM: the same pairs in any order have the same lenders.
+pub same-lenders : (ps qs : List Pair) → SamePairs ps qs → Once (takersOf ps) → Once (takersOf qs) → TakersLow ps → lendersIn ps ≡ lendersIn qs
+same-lenders ps qs same a b low =
+    ext-getD nobody (lendersIn ps) (lendersIn qs) (lenders-length ps ∙ sym (lenders-length qs)) (λ t l. lender t (omega (arith, l, lenders-length ps)))
+  where
+    low-too : TakersLow qs
+    low-too l t h = low l t (same l t .1 h)
+
+    lender : (t : ℕ) → t < mostWires → lenderOf (lendersIn ps) t ≡ lenderOf (lendersIn qs) t
+    lender t l = elim (in-or-out t (takersOf ps)) [
+      | inl h ↦ (let r = taker-in ps t h in
+          in-listed ps a low (r .0) t (r .1) ∙ sym (in-listed qs b low-too (r .0) t (same (r .0) t .0 (r .1))))
+      | inr n ↦ out-listed ps t l n ∙ sym (out-listed qs t l (λ h. let r = taker-in qs t h in n (in-takers ps (r .0) t (same (r .0) t .1 (r .1)))))
+    ]
 
 -- a wire that takes by the lenders does so by the list
 listed-in : (ps : List Pair) → TakersLow ps → (width t : ℕ) → width ≤ mostWires → t < width → takes (lendersIn ps) width t ≡ true
