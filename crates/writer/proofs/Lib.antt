@@ -12,4 +12,3 @@ pub mod Allowed
 pub mod Listed
 pub mod Compiles
 pub mod Exactly
-pub mod Worked

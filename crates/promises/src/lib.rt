@@ -1,0 +1,1 @@
+// The demands as theorems over what the layers define and prove. No functions.
