@@ -1,11 +1,10 @@
 //! The second program: what the scope document asks of the pass, in plain Rust.
 //!
-//! It shares no code with the proved crates and works otherwise: lists of kinds on each wire where
-//! they keep states, a search for cycles where they keep a table, sets where they keep bits. The
-//! reader was written from the document alone, before the proved one. The table, the greedy choice
-//! and the compiler were written by people who had read the proved ones, so a wrong reading of the
-//! document that both sides share would not show there. It is meant to be seen to be right, not to
-//! be fast.
+//! All of it was written from document 01 alone, by people who had not seen the proved crates, and
+//! it shares no code with them; only its public calls and the bytes of a table were laid down
+//! beforehand. Marks are kept in sets, a pair list is judged by a search of the graph and never by
+//! the table, and the next instruction is found by asking each one what it waits for. It is meant
+//! to be seen to be right, not to be fast.
 
 #![deny(missing_docs)]
 #![forbid(unsafe_code)]

@@ -8,6 +8,7 @@ mod document;
 mod exhaustive;
 mod greedy;
 mod limits;
+mod paper;
 mod random;
 mod settings;
 mod table;
