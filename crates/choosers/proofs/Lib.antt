@@ -3,5 +3,6 @@ pub mod BestPairs
 pub mod GreedyRounds
 pub mod Underway
 pub mod Settling
+pub mod HandedLists
 pub mod Endings
 pub mod WorkedB

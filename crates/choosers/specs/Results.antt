@@ -1,8 +1,8 @@
 -- What a chooser settles, and what the code's answers say of it.
-use Prim.Native.Nat.{ℕ, _+_, _-_, _^_}
+use Prim.Native.Nat.{ℕ, _+_, _-_, _^_, _≤_}
 use mathlib.Core.Option.{Option, none, some}
 use mathlib.Core.List.{List, _++_, map}
-use lib.ListN.{length, set, replicate}
+use lib.ListN.{length, take, set, replicate}
 use Rattle.basics.specs.Choice.{pick}
 use Rattle.basics.specs.Outcome.{Outcome, done, refused, handing}
 use Rattle.orders.specs.Runs as runs
@@ -33,6 +33,23 @@ pairOf p = record { lender = wire (p .0); taker = wire (p .1) }
 -- the list by value: the pairs, and 0 to 0 in the entries past them
 abbrev pub listOf : List runs.Pair → PairList
 listOf ps = record { pairs = map pairOf ps ++ replicate (mostPairs - length ps) (pairOf (0, 0)); length = length ps }
+
+-- the numbers of a pair's wires
+abbrev pub numbersOf : Pair → runs.Pair
+numbersOf p = (p .lender .0, p .taker .0)
+
+-- the pairs of the first n entries
+abbrev pub firstPairs : ℕ → List Pair → List runs.Pair
+firstPairs n entries = map numbersOf (take n entries)
+
+-- the pairs of a list by value: its entries up to its length
+abbrev pub pairsOf : PairList → List runs.Pair
+pairsOf l = firstPairs (l .length) (l .pairs)
+
+-- a list has room for its entries
+pub record Sized (l : PairList) : Type 0 where
+  pub few : l .length ≤ mostPairs
+  pub held : l .length ≤ length (l .pairs)
 
 -- the values that are handed back
 abbrev pub handedBack : Choosing → Rounds

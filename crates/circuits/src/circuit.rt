@@ -1,4 +1,5 @@
 // What is told of a valid circuit, and the limits.
+use records::Encoded;
 
 // How many wires, and how many instructions.
 pub struct Circuit {
@@ -13,4 +14,7 @@ impl Circuit {
 
     // The bytes of the width record, after which the instructions begin.
     pub const HEADER: usize = 2;
+
+    // So many first bytes decide a reading: the header, the most and the longest instructions, and one byte more.
+    pub const DECIDING: usize = Circuit::HEADER + Circuit::MOST_INSTRUCTIONS * Encoded::MOST + 1;
 }

@@ -7,10 +7,10 @@ ghost use Rattle.writing.specs.Writing.{Placed, Written};
 ghost use Rattle.texts.specs.Listings.{summaryLine, pairLine, longestSummary, longestPair};
 
 // Room for the longest first line.
-const LONGEST_SUMMARY: usize = 110;
+pub const LONGEST_SUMMARY: usize = 110;
 
 // Room for the longest line of a pair.
-const LONGEST_PAIR: usize = 17;
+pub const LONGEST_PAIR: usize = 17;
 
 // Each pair saves a qubit.
 fn qubits_of(wires: usize, pairs: usize) -> usize

@@ -1,13 +1,12 @@
--- The records of a pair list: how long they are, the first of those that are left, and that the code's list has greedy's records.
--- Assumes nothing.
-use Prim.Native.Nat.{ℕ, _+_, _-_, _*_, _%_, _≤_, _<_}
+-- The records of a pair list: how long they are, and the first of those that are left; and what is told of them. Assumes nothing.
+use Prim.Native.Nat.{ℕ, _+_, _*_, _%_, _≤_, _<_}
 use mathlib.Core.Bool.{Bool, true, false}
-use mathlib.Core.Path.{_≡_, refl, sym, ap, subst, _∙_}
-use mathlib.Core.List.{List, [], _∷_, _++_, map}
+use mathlib.Core.Path.{_≡_, sym, ap, subst, _∙_}
+use mathlib.Core.List.{List, [], _∷_, _++_}
 use native.Mathlib.Omega.{arith}
 use native.Mathlib.Numerals.{add-one}
 use native.Mathlib.Nat.{suc-mul}
-use lib.ListN.{length, getD, take, drop, replicate, length-append, length-map, drop-of-length-le}
+use lib.ListN.{length, getD, take, drop, drop-of-length-le}
 use lib.Seq.{drop-cons, getD-take, length-take-le}
 use Rattle.basics.specs.Choice.{pick}
 use Rattle.basics.specs.Outcome.{Outcome, done, refused, handing}
@@ -19,14 +18,12 @@ use Rattle.records.specs.declared.instructions.Record.the-variants.{Reuse}
 use Rattle.table.specs.Calls.{wrongWidth}
 use Rattle.table.specs.declared.tables.Table.{Table}
 use Rattle.choosers.specs.Greedy.{greedyFrom}
-use Rattle.choosers.specs.Results.{mostPairs, pairOf, handedBack, greedyOf}
+use Rattle.choosers.specs.Results.{Sized, handedBack, greedyOf}
 use Rattle.choosers.specs.declared.answers.PairList.{PairList}
 use Rattle.choosers.specs.declared.answers.Rounds.{Rounds}
-use Rattle.choosers.proofs.GreedyRounds.{pairs-any}
-use Rattle.choosers.proofs.YesPairs.{fits}
 use Rattle.choosers.specs.declared.answers.Pair.{Pair}
 use Rattle.thaksipho.specs.Words.{placesEnd, word}
-use Rattle.thaksipho.specs.Lists.{entriesBytes, listBytes, Sized, listWritten, listValue, Listed}
+use Rattle.thaksipho.specs.Lists.{entriesBytes, listBytes, listWritten, listValue, Listed}
 use Rattle.thaksipho.proofs.Fitting.{kept}
 
 entries-length : (ps : List Pair) → length (entriesBytes ps) ≡ length ps * 3
@@ -57,21 +54,6 @@ module _ (ps : List Pair) (n : ℕ) (held : n ≤ length ps) where
   entries-over i h = ap entriesBytes (drop-of-length-le (take n ps) {i = i} (omega (arith, size)))
 
 -- What greedy hands back
-
--- its list has room for its entries
-pub greedy-sized : (t : Table) (r : Rounds) → greedyOf t ≡ done r → Sized (r .list)
-unfolding greedyOf
-greedy-sized t r e = go (wrongWidth t) refl e
-  where
-    go : (b : Bool) → wrongWidth t ≡ b → pick b (refused 27 0) (done (handedBack (greedyFrom t))) ≡ done r → Sized (r .list)
-    go true w e = absurd (not-refused e)
-    go false w e =
-        let z : handedBack (greedyFrom t) ≡ r = cc in
-        let ps = greedyFrom t .pairs in
-        let few = pairs-any t w in
-        let most = fits t w in
-        let parts = length-append (map pairOf ps) (replicate (mostPairs - length ps) (pairOf (0, 0))) in
-        subst (λ (q : Rounds). Sized (q .list)) z (record { few = omega arith; held = omega (arith, parts, length-map ps pairOf) })
 
 -- no room, and room
 module _ (l : PairList) (sized : Sized l) (room : ℕ) where

@@ -1,5 +1,5 @@
 -- The greedy choice handed back as 60 records, with the number of trials and of pairs.
-use Prim.Native.Nat.{ℕ, _+_, _*_, _≤_}
+use Prim.Native.Nat.{ℕ, _+_, _*_}
 use mathlib.Core.Path.{_≡_}
 use mathlib.Core.List.{List, [], _∷_, _++_}
 use lib.ListN.{length, take}
@@ -7,7 +7,6 @@ use Rattle.basics.specs.Outcome.{Outcome, done, refused, handing}
 use Rattle.writing.specs.Writing.{fitted, holding}
 use Rattle.records.specs.Bytes.{recordBytes}
 use Rattle.records.specs.declared.instructions.Record.the-variants.{Reuse}
-use Rattle.choosers.specs.Results.{mostPairs}
 use Rattle.choosers.specs.declared.answers.Pair.{Pair}
 use Rattle.choosers.specs.declared.answers.PairList.{PairList}
 use Rattle.choosers.specs.declared.answers.Rounds.{Rounds}
@@ -21,11 +20,6 @@ entriesBytes (p ∷ ps) = recordBytes (Reuse (p .lender) (p .taker)) ++ entriesB
 -- the records of a list: its entries up to its length
 abbrev pub listBytes : PairList → List ℕ
 listBytes l = entriesBytes (take (l .length) (l .pairs))
-
--- a list has room for its entries
-pub record Sized (l : PairList) : Type 0 where
-  pub few : l .length ≤ mostPairs
-  pub held : l .length ≤ length (l .pairs)
 
 -- the list's records, where there is room for them
 abbrev pub listWritten : ℕ → Outcome Rounds → Outcome (List ℕ)

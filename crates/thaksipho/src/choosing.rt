@@ -12,8 +12,8 @@ ghost use lib.ListN.{length};
 ghost use Rattle.basics.specs.Outcome.{done};
 ghost use Rattle.writing.specs.Writing.{Wrote};
 ghost use Rattle.table.specs.TableBytes.{tableOf};
-ghost use Rattle.choosers.specs.Results.{greedyOf};
-ghost use Rattle.thaksipho.specs.Lists.{listBytes, Sized, Listed};
+ghost use Rattle.choosers.specs.Results.{Sized, greedyOf};
+ghost use Rattle.thaksipho.specs.Lists.{listBytes, Listed};
 
 // The bytes of a reuse pair's record.
 const PAIR: usize = 3;

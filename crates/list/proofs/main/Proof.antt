@@ -21,20 +21,20 @@ fail-requires c κs = search needs
 returns : tie.Need-returns
 returns c = search needs
 
-slice-aggregate-put-listing : tie.Need-slice-aggregate-put-listing
-slice-aggregate-put-listing c = search needs
+slice-aggregate-listing-of : tie.Need-slice-aggregate-listing-of
+slice-aggregate-listing-of c = search needs
 
 array-share-prefix-buffer : tie.Need-array-share-prefix-buffer
 array-share-prefix-buffer c = search needs
 
-slice-aggregate-put-listing-2 : tie.Need-slice-aggregate-put-listing-2
-slice-aggregate-put-listing-2 c = sym (length-take-le _ _ (omega arith))
+slice-aggregate-listing-of-2 : tie.Need-slice-aggregate-listing-of-2
+slice-aggregate-listing-of-2 c = sym (length-take-le _ _ (omega arith))
 
-put-listing-requires : tie.Need-put-listing-requires
-put-listing-requires c κs = search needs
+listing-of-requires : tie.Need-listing-of-requires
+listing-of-requires c κs = search needs
 
-array-share-prefix-listing : tie.Need-array-share-prefix-listing
-array-share-prefix-listing c = search needs
+array-share-prefix-lines : tie.Need-array-share-prefix-lines
+array-share-prefix-lines c = search needs
 
 slice-aggregate-write-all : tie.Need-slice-aggregate-write-all
 slice-aggregate-write-all c = sym (length-take-le _ _ (omega arith))
@@ -63,11 +63,11 @@ main-spec =
     slice-aggregate-fail
     fail-requires
     returns
-    slice-aggregate-put-listing
+    slice-aggregate-listing-of
     array-share-prefix-buffer
-    slice-aggregate-put-listing-2
-    put-listing-requires
-    array-share-prefix-listing
+    slice-aggregate-listing-of-2
+    listing-of-requires
+    array-share-prefix-lines
     slice-aggregate-write-all
     write-all-requires
     slice-aggregate-fail-2

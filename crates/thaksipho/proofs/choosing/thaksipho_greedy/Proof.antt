@@ -3,7 +3,8 @@ use mathlib.Core.Path.{sym, ap, _∙_}
 use Rattle.basics.specs.Outcome.{handing}
 use Rattle.choosers.specs.Results.{chosen, greedyOf}
 use Rattle.thaksipho.specs.Lists.{listValue, listWritten}
-use Rattle.thaksipho.proofs.ListWords.{greedy-sized, listed-refused, greedy-place, relisted}
+use Rattle.choosers.proofs.HandedLists.{greedy-sized}
+use Rattle.thaksipho.proofs.ListWords.{listed-refused, greedy-place, relisted}
 use borrow.Author.Needs.{needs}
 use Rattle.thaksipho.proofs.choosing.thaksipho_greedy.Statement.{statement}
 use Rattle.thaksipho.proofs.choosing.thaksipho_greedy.Tie as tie

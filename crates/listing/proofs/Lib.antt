@@ -1,0 +1,4 @@
+pub mod Lengths
+pub mod Choices
+pub mod FirstBytes
+pub mod Worked
