@@ -20,10 +20,11 @@ use Rattle.table.specs.Limits.{mostWires}
 use Rattle.table.specs.Marks.{counts, marksOf}
 use Rattle.table.specs.Rule.{acceptedIn, accepted}
 use Rattle.table.specs.Calls.{wrongWidth}
+use Rattle.table.specs.Growing.{view}
 use Rattle.table.specs.declared.tables.Table.{Table}
 use Rattle.choosers.specs.Trying.{scoreIn, bestPair}
 use Rattle.choosers.specs.Greedy.{Choosing, greedyRounds, greedyFrom, after}
-use Rattle.choosers.specs.GrownTables.{asMarks, stateOf, greedyRule, GrownFrom}
+use Rattle.choosers.specs.GrownTables.{stateOf, greedyRule, GrownFrom}
 use Rattle.choosers.proofs.YesPairs.{counts-within, far-lender, far-taker, fits, yes-updated}
 use Rattle.choosers.proofs.BestPairs.{best-found, best-none, best-same}
 use Rattle.orders.proofs.Turned.{reverse-twice, maximal-turned}
@@ -40,13 +41,13 @@ rule-chooses w = record {
 -- ---- a table and its marks
 
 module _ (t : Table) (right : wrongWidth t ≡ false) where
-  accept-marks : (l k : ℕ) → counts t l k ≡ true → asMarks (accepted t l k) ≡ orders.accept (l, k) (asMarks t)
+  accept-marks : (l k : ℕ) → counts t l k ≡ true → view (accepted t l k) ≡ orders.accept (l, k) (view t)
   unfolding orders.accept
   accept-marks l k mark =
       let u = yes-updated t right l k mark in
       λ i. record { mark = λ a b. u .marks a b i; lent = λ a. u .lenders a i; taken = λ b. u .takers b i }
 
-  rule-best : greedyRule (t .width) (asMarks t) ≡ bestPair t
+  rule-best : greedyRule (t .width) (view t) ≡ bestPair t
   unfolding greedyRule bestPair marksOf
   rule-best =
       best-same (counts t) _ (scoreIn t)
@@ -95,14 +96,14 @@ digit-pick true = refl
 digit-pick false = refl
 
 module _ (t : Table) (right : wrongWidth t ≡ false) where
-  row-count : (l : ℕ) → rowCount (t .width) (asMarks t) l ≡ bits.tally mostWires (counts t l)
+  row-count : (l : ℕ) → rowCount (t .width) (view t) l ≡ bits.tally mostWires (counts t l)
   unfolding rowCount
   row-count l =
       sum-below _ (t .width)
       ∙ (λ i. bits.total (t .width) (λ k. digit-pick (counts t l k) i))
       ∙ sym (total-cut (t .width) mostWires (λ k. bits.digit (counts t l k)) (fits t right) (far-taker t l))
 
-  pub yes-count : yesCount (t .width) (asMarks t) ≡ marksOf t
+  pub yes-count : yesCount (t .width) (view t) ≡ marksOf t
   unfolding yesCount marksOf
   yes-count =
       sum-below _ (t .width)

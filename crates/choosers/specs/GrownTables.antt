@@ -1,4 +1,4 @@
--- A table as the marks that crate `orders` speaks of, greedy as one of its rules of choice, and tables grown from a circuit.
+-- Greedy as one of the rules of choice of crate `orders`, and tables grown from a circuit.
 use Prim.Native.Nat.{ℕ}
 use mathlib.Core.Path.{_≡_}
 use mathlib.Core.Bool.{false}
@@ -8,18 +8,14 @@ use Rattle.orders.specs.Runs.{Circuit, Pair}
 use Rattle.orders.specs.Table as orders
 use Rattle.orders.specs.Rounds.{Chooser}
 use Rattle.table.specs.Limits.{mostWires}
-use Rattle.table.specs.Marks.{counts, lends, takes}
+use Rattle.table.specs.Growing.{view}
 use Rattle.table.specs.Calls.{wrongWidth}
 use Rattle.table.specs.declared.tables.Table.{Table}
 use Rattle.choosers.specs.Trying.{bestBelow}
 
--- the marks that count, and the wires that lend and take
-abbrev pub asMarks : Table → orders.Table
-asMarks t = record { mark = counts t; lent = lends t; taken = takes t }
-
 -- a table and the pairs accepted so far, the latest first
 abbrev pub stateOf : Table → List Pair → orders.State
-stateOf t ps = record { table = asMarks t; pairs = ps }
+stateOf t ps = record { table = view t; pairs = ps }
 
 -- the best pair by the marks alone: a pair's score is the count of yes marks left after accepting it
 unfoldable pub greedyRule : ℕ → Chooser

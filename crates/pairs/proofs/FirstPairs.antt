@@ -4,10 +4,10 @@ use Prim.Native.Nat.{ℕ, zero, suc, _+_, _-_, _*_, _/_, _≤_, _<_}
 use mathlib.Core.Path.{_≡_, refl, sym, ap, subst, _∙_}
 use mathlib.Core.Logic.{inl, inr}
 use mathlib.Core.Bool.{Bool, true, false}
-use mathlib.Core.List.{List, [], _∷_}
-use mathlib.Core.Option.{Option, none, some}
+use mathlib.Core.List.{List, _∷_}
+use mathlib.Core.Option.{Option}
 use native.Mathlib.Omega.{arith}
-use lib.Dec.{eqb, leb}
+use lib.Dec.{eqb}
 use lib.ListN.{length, getD, take}
 use lib.Seq.{getD-take, length-take-le, take-all}
 use borrow.Author.Tests.{eqb-true, lt-leb}
@@ -17,8 +17,7 @@ use Rattle.basics.proofs.Tests.{true-or-false, not-both, below-or-not}
 use Rattle.orders.specs.Runs.{Pair, Circuit, Lawful}
 use Rattle.orders.proofs.Pairs.{allowed-few}
 use Rattle.records.specs.Kinds.{Shape, shapeOf}
-use Rattle.records.specs.Records.{Standing, stands, recordAt, wire}
-use Rattle.records.specs.declared.instructions.Record.{Record}
+use Rattle.records.specs.Records.{stands, recordAt, wire}
 use Rattle.records.specs.declared.instructions.Record.the-variants.{Reuse}
 use Rattle.records.specs.declared.kinds.Form.the-variants as form
 use Rattle.records.proofs.Standings.{at-record}

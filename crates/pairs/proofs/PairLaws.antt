@@ -22,14 +22,11 @@ use Rattle.table.specs.Starting.{startTable}
 use Rattle.table.specs.Growing.{view, Growing, offerTo, taking, grownFrom, stateOf}
 use Rattle.table.specs.declared.tables.Table.{Table}
 use Rattle.table.proofs.Offers.{yes-taken}
+use Rattle.table.proofs.Numbers.{RefusesPair, pair-numbers}
 use Rattle.table.proofs.DemandThree.{Right, may-counts, offer-state, offer-right, start-view, start-width}
 use Rattle.pairs.proofs.PairTurns.{pair-refusal, pairs-end, pairs-on}
 use Rattle.pairs.proofs.ListForms.{Listed, pairs-listed, end-there, pair-there, rest-there, pairs-short}
 use Rattle.pairs.specs.Listing.{pairsBytes, AllowedList, Next, pair, end, pairAt, tried, pursued, onward, pairsFrom, readPairs}
-
--- the refusals of an offer have numbers
-abbrev pub Numbered : Type 0
-Numbered = (t : Table) (lender taker n p : ℕ) → offered t lender taker ≡ refused n p → 1 ≤ n
 
 -- the reading ends with these pairs, the latest first
 pub record Whole (o : Outcome Growing) (pairs : List Pair) : Type 0 where
@@ -92,39 +89,41 @@ module _ (C : Circuit) (law : Lawful C) where
         same = rest .same;
       }
 
-  -- a refusal has a number, and for its place the index of a pair of so many wires
-  abbrev Counted : ℕ → ℕ → Type 0
-  Counted number place = (1 ≤ number) × (place ≤ C .width - 1)
+  -- a refusal has a number of 20 to 25, and for its place the index of a pair of so many wires
+  abbrev pub Counted : ℕ → ℕ → Type 0
+  Counted number place = (20 ≤ number) × (number ≤ 25) × (place ≤ C .width - 1)
 
-  refusal-counted : Numbered → (more : ℕ) (s : List ℕ) (at index : ℕ) (g : Growing) → Sound g → length (g .pairs) ≡ index → (n p : ℕ)
+  refusal-counted : (more : ℕ) (s : List ℕ) (at index : ℕ) (g : Growing) → Sound g → length (g .pairs) ≡ index → (n p : ℕ)
       → pairsFrom more s at index g ≡ refused n p → Counted n p
   unfolding pairsFrom
-  refusal-counted numbered zero s at index g sound size n p e = absurd (not-refused (sym e))
-  refusal-counted numbered (suc more) s at index g sound size n p e =
-      go (pairAt s at index) refl (λ next k sound size m q f. refusal-counted numbered more s next (index + 1) k sound size m q f) n p e
+  refusal-counted zero s at index g sound size n p e = absurd (not-refused (sym e))
+  refusal-counted (suc more) s at index g sound size n p e =
+      go (pairAt s at index) refl (λ next k sound size m q f. refusal-counted more s next (index + 1) k sound size m q f) n p e
     where
       few : index ≤ C .width - 1
       few = omega (arith, size, allowed-few C law (g .pairs) (sound .0 .allowed))
 
-      told : {m n p : ℕ} → 1 ≤ m → _≡_ {A = Outcome Growing} (refused m index) (refused n p) → Counted n p
+      told : {m n p : ℕ} → (20 ≤ m) × (m ≤ 25) → _≡_ {A = Outcome Growing} (refused m index) (refused n p) → Counted n p
       told {m} {n} {p} h e =
           let a : m ≡ n = cc in
           let b : index ≡ p = cc in
-          (omega arith, omega (arith, few))
+          (omega (arith, h .0), omega (arith, h .1), omega (arith, few))
 
       taken : (p : Pair) (next : ℕ) (o : Outcome Table) → offered (g .table) (p .0) (p .1) ≡ o
           → ((k : Growing) → Sound k → length (k .pairs) ≡ index + 1 → (n q : ℕ) → pairsFrom more s next (index + 1) k ≡ refused n q → Counted n q)
           → (n q : ℕ) → onward (tried index p g o) (λ k. pairsFrom more s next (index + 1) k) ≡ refused n q → Counted n q
       taken p next (done t) z behind n q e =
           behind (record { table = t; pairs = p ∷ g .pairs }) (subst (λ (o : Outcome Table). Sound (taking p g o)) z (offer-sound p g sound)) (omega (arith, size)) n q e
-      taken p next (refused m o) z behind n q e = told (numbered (g .table) (p .0) (p .1) m o z) e
+      taken p next (refused m o) z behind n q e =
+          let r = subst (λ (o : Outcome Table). RefusesPair o) z (pair-numbers (g .table) (p .0) (p .1) (sound .1) (accepted (g .table) (p .0) (p .1))) in
+          told (r .0 .0, omega (arith, r .0 .1)) e
 
       go : (o : Outcome Next) → pairAt s at index ≡ o
           → ((next : ℕ) (k : Growing) → Sound k → length (k .pairs) ≡ index + 1 → (n q : ℕ) → pairsFrom more s next (index + 1) k ≡ refused n q → Counted n q)
           → (n q : ℕ) → pursued g o (λ p next. onward (tried index p g (offered (g .table) (p .0) (p .1))) (λ k. pairsFrom more s next (index + 1) k)) ≡ refused n q → Counted n q
       go (done (pair p next)) z behind n q e = taken p next (offered (g .table) (p .0) (p .1)) refl (behind next) n q e
       go (done end) z behind n q e = absurd (not-refused (sym e))
-      go (refused m o) z behind n q e = let r = pair-refusal s at index z in told (r .0) (ap (λ (x : ℕ). refused m x) (sym (r .1)) ∙ e)
+      go (refused m o) z behind n q e = let r = pair-refusal s at index z in told (omega (arith, r .0), r .1) (ap (λ (x : ℕ). refused m x) (sym (r .2)) ∙ e)
 
 module _ (s list : List ℕ) (c : Static) (e : readCircuit s ≡ done c) where
   pub law : Lawful (circuitOf c)
@@ -167,6 +166,6 @@ module _ (s list : List ℕ) (c : Static) (e : readCircuit s ≡ done c) where
       (let size = ap length (a .bytes) in let few = pairs-short (a .pairs) in omega arith)
       (a .bytes) (allowed-turned (circuitOf c) (a .pairs) (a .allowed))
 
-  -- a refused list: the refusal has a number, and its place is below the number of wires
-  pub list-refusal : Numbered → {n p : ℕ} → readPairs (startTable c) list ≡ refused n p → (1 ≤ n) × (p ≤ c .width - 1)
-  list-refusal numbered {n} {p} f = refusal-counted (circuitOf c) law numbered (suc (length list)) list 0 0 (grownFrom c) at-start refl n p f
+  -- a refused list: the refusal has a number of 20 to 25, and its place is below the number of wires
+  pub list-refusal : {n p : ℕ} → readPairs (startTable c) list ≡ refused n p → Counted (circuitOf c) law n p
+  list-refusal {n} {p} f = refusal-counted (circuitOf c) law (suc (length list)) list 0 0 (grownFrom c) at-start refl n p f

@@ -65,29 +65,29 @@ pair-end s at index e = go (leb (length s) at) refl (pairKind (getD s at 0)) e
     go false q true e = answer (leb-false (length s) at q) (recordAt s at) refl e
     go false q false e = absurd (not-refused e)
 
--- a refusal there has a number, and the pair's index for its place
-pub pair-refusal : (s : List ℕ) (at index : ℕ) {n p : ℕ} → pairAt s at index ≡ refused n p → (1 ≤ n) × (p ≡ index)
+-- a refusal there is 24 or 25, and has the pair's index for its place
+pub pair-refusal : (s : List ℕ) (at index : ℕ) {n p : ℕ} → pairAt s at index ≡ refused n p → (24 ≤ n) × (n ≤ 25) × (p ≡ index)
 unfolding pairAt
 pair-refusal s at index e = go (leb (length s) at) (pairKind (getD s at 0)) e
   where
-    told : {m n p : ℕ} → 1 ≤ m → _≡_ {A = Outcome Next} (refused m index) (refused n p) → (1 ≤ n) × (p ≡ index)
+    told : {m n p : ℕ} → (24 ≤ m) × (m ≤ 25) → _≡_ {A = Outcome Next} (refused m index) (refused n p) → (24 ≤ n) × (n ≤ 25) × (p ≡ index)
     told {m} {n} {p} h e =
         let a : m ≡ n = cc in
         let b : index ≡ p = cc in
-        (omega arith, sym b)
+        (omega (arith, h .0), omega (arith, h .1), sym b)
 
-    answer : (o : Outcome Standing) {n p : ℕ} → pairOf index o ≡ refused n p → (1 ≤ n) × (p ≡ index)
+    answer : (o : Outcome Standing) {n p : ℕ} → pairOf index o ≡ refused n p → (24 ≤ n) × (n ≤ 25) × (p ≡ index)
     answer (done (stands (Reuse l t) next)) e = absurd (not-refused (sym e))
-    answer (done (stands (StaticWidth w) next)) e = told (omega arith) e
-    answer (done (stands (DynamicWidth q b) next)) e = told (omega arith) e
-    answer (done (stands (Step i) next)) e = told (omega arith) e
+    answer (done (stands (StaticWidth w) next)) e = told (omega arith, omega arith) e
+    answer (done (stands (DynamicWidth q b) next)) e = told (omega arith, omega arith) e
+    answer (done (stands (Step i) next)) e = told (omega arith, omega arith) e
     answer (done over) e = absurd (not-refused (sym e))
-    answer (refused m q) e = told (omega arith) e
+    answer (refused m q) e = told (omega arith, omega arith) e
 
-    go : (a b : Bool) {n p : ℕ} → pick a (done end) (pick b (pairOf index (recordAt s at)) (refused 24 index)) ≡ refused n p → (1 ≤ n) × (p ≡ index)
+    go : (a b : Bool) {n p : ℕ} → pick a (done end) (pick b (pairOf index (recordAt s at)) (refused 24 index)) ≡ refused n p → (24 ≤ n) × (n ≤ 25) × (p ≡ index)
     go true b e = absurd (not-refused (sym e))
     go false true e = answer (recordAt s at) e
-    go false false e = told (omega arith) e
+    go false false e = told (omega arith, omega arith) e
 
 -- the reading with some pairs still to come
 module _ (s : List ℕ) (at index more : ℕ) (g : Growing) (some : 0 < more) where

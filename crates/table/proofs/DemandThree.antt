@@ -150,10 +150,23 @@ offers-state [] g right = refl
 offers-state (p ∷ ps) g right =
     offers-state ps (offerTo p g) (offer-right p g right) ∙ ap (orders.offers ps) (offer-state p g right (counts (g .table) (p .0) (p .1)) refl)
 
-offers-right : (ps : List Pair) (g : Growing) → Right (g .table) → Right (offersTo ps g .table)
+pub offers-right : (ps : List Pair) (g : Growing) → Right (g .table) → Right (offersTo ps g .table)
 unfolding offersTo
 offers-right [] g right = right
 offers-right (p ∷ ps) g right = offers-right ps (offerTo p g) (offer-right p g right)
+
+-- the width is the one given
+offer-width : (p : Pair) (g : Growing) → offerTo p g .table .width ≡ g .table .width
+offer-width p g = go (offered (g .table) (p .0) (p .1)) refl
+  where
+    go : (o : Outcome Table) → offered (g .table) (p .0) (p .1) ≡ o → taking p g o .table .width ≡ g .table .width
+    go (done after) z = taken-updated (g .table) (p .0) (p .1) after z .width
+    go (refused n q) z = refl
+
+pub offers-width : (ps : List Pair) (g : Growing) → offersTo ps g .table .width ≡ g .table .width
+unfolding offersTo
+offers-width [] g = refl
+offers-width (p ∷ ps) g = offers-width ps (offerTo p g) ∙ offer-width p g
 
 -- on such a table `may` says what counts
 pub may-counts : (t : Table) (l k : ℕ) → Right t → (mayLend t l k ≡ done true) ↔ (counts t l k ≡ true)

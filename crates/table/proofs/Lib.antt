@@ -2,6 +2,7 @@ pub mod Held
 pub mod RowBits
 pub mod TableMarks
 pub mod Judgements
+pub mod Numbers
 pub mod Updates
 pub mod Offers
 pub mod SavedTables

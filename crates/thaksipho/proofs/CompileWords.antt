@@ -21,7 +21,6 @@ use Rattle.writer.proofs.Compiles.{compiled-length}
 use Rattle.pairs.specs.Lending.{lendersIn}
 use Rattle.thaksipho.specs.Words.{placesEnd}
 use Rattle.thaksipho.proofs.Fitting.{Fits, fitted-fits}
-use Rattle.thaksipho.proofs.TableWords.{offered-numbered}
 
 -- what is told of the bytes is how many they are
 abbrev pub bytesTold : Outcome Counts → Outcome ℕ
@@ -58,8 +57,8 @@ module _ (s list : List ℕ) (room : ℕ) where
           (let size : length (output (lendersIn (g .pairs)) c) ≡ length s + 1 = subst (λ (o : Outcome Static). length (outputOf (lendersIn (g .pairs)) o) ≡ length s + 1) e (compiled-length s list (accepted c e) g f) in
           omega (arith, size, valid-short s c (read-valid s e)))
       listed c e (refused n p) f =
-          let r = list-refusal s list c e offered-numbered f in
-          (r .0, omega (arith, r .1, read-valid s e .narrow))
+          let r = list-refusal s list c e f in
+          (omega (arith, r .0), omega (arith, r .2, read-valid s e .narrow))
 
       go : (o : Outcome Static) → readCircuit s ≡ o → Fits (sized (bytesOf (compiledFrom room list o)))
       go (done c) e = listed c e (readPairs (startTable c) list) refl

@@ -7,16 +7,13 @@ use native.Mathlib.Omega.{arith}
 use native.Mathlib.Nat.{suc-mul, mod-eq-of-lt}
 use lib.ListN.{length}
 use lib.Dec.{ltb}
-use borrow.Author.Tests.{ltb-true, ltb-false}
 use Rattle.basics.specs.Choice.{pick}
 use Rattle.basics.specs.Outcome.{Outcome, done, refused}
 use Rattle.writing.specs.Writing.{fitted, sized, Settled}
 use Rattle.writing.proofs.Puts.{settled-refused}
-use Rattle.circuits.specs.Limits.{mostWires, mostInstructions, decidingBytes}
-use Rattle.circuits.specs.Reading.{Static, summary, circuitOf, readCircuit}
+use Rattle.circuits.specs.Reading.{Static, summary, readCircuit}
 use Rattle.circuits.specs.Validity.{circuitBytes}
 use Rattle.circuits.specs.Rewriting.{againOf, rewritten}
-use Rattle.circuits.specs.declared.circuit.Circuit.{Circuit}
 use Rattle.circuits.proofs.Validity.{read-valid}
 use Rattle.circuits.proofs.Refusals.{refused-circuit, valid-short}
 use Rattle.thaksipho.specs.Words.{placesEnd, word, circuitValue, Worded}

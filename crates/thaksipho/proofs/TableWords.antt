@@ -1,5 +1,5 @@
 -- What the calls on tables tell fits a word. Assumes nothing.
-use Prim.Native.Nat.{ℕ, _*_, _≤_, _<_}
+use Prim.Native.Nat.{ℕ, _≤_, _<_}
 use mathlib.Core.Bool.{Bool, true, false}
 use mathlib.Core.Path.{_≡_, refl, ap, subst, _∙_}
 use mathlib.Core.List.{List}
@@ -50,10 +50,6 @@ module _ (t : Table) (lender taker : ℕ) where
 
   pub offered-sound : Sound (offered t lender taker)
   offered-sound = handed (accepted t lender taker) (judged t lender taker) judged-sound
-
-  -- a refused offer has a number
-  pub offered-numbered : (n p : ℕ) → offered t lender taker ≡ refused n p → 1 ≤ n
-  offered-numbered n p e = subst Sound e offered-sound .0
 
   pub may-fits : Fits (flag (mayLend t lender taker))
   unfolding mayLend
