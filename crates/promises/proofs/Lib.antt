@@ -3,4 +3,5 @@ pub mod DemandTwo
 pub mod DemandThree
 pub mod Choosing
 pub mod Meaning
+pub mod Unique
 pub mod WorkedExamples
