@@ -1,6 +1,6 @@
-# The two commands of README.md. The gate, .ci/run, calls `make test`.
+# The commands of README.md. The gate, .ci/run, calls `make test`.
 
-.PHONY: run test tools
+.PHONY: run test bench tools
 
 # The program that `make run` shows.
 PROGRAM := cases
@@ -19,6 +19,10 @@ run:
 
 test:
 	@tests/run
+
+# Measures, and writes the figures of docs/PERFORMANCE.md.
+bench:
+	@rust/bench/measure
 
 # Does nothing but look for the tools, as every target does.
 tools: ;
