@@ -30,7 +30,7 @@
  * from the left decides.
  *
  *   No.  Refused because                                       Place
- *    1   the circuit is empty or does not begin with 01        0
+ *    1   the input is empty or does not begin with 01          0
  *    2   a record's body runs past the end                     the record's offset
  *    3   the width is 0 or above 32                            0
  *    4   the kind is none of an instruction                    the record's offset
@@ -42,7 +42,7 @@
  *   10   the wire is already measured                          the record's offset
  *   11   a bit number is not below the width                   the record's offset
  *   12   the bit is already used                               the record's offset
- *   13   the circuit ends with a wire not measured             the lowest such wire
+ *   13   the input ends with a wire not measured               the lowest such wire
  *   20   lender or taker is not below the width                the pair's index
  *   21   the lender already lends                              the pair's index
  *   22   the taker already takes                               the pair's index

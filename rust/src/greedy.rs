@@ -4,6 +4,8 @@ use crate::{bytes, Refusal, Table, Wire};
 
 /// How many bytes the record of a pair has: its kind, the lender, the taker.
 const RECORD_LENGTH: usize = 3;
+/// The kind of a reuse pair.
+const KIND: u8 = 0x60;
 
 /// A reuse pair: the taker takes the lender's qubit after the lender's measurement.
 #[derive(Clone, Copy, Debug, PartialEq, Eq, Hash)]
@@ -12,6 +14,20 @@ pub struct Pair {
     pub lender: Wire,
     /// The wire that takes.
     pub taker: Wire,
+}
+
+impl Pair {
+    /// The pair as a record of a pair list, for [`crate::compile`].
+    ///
+    /// ```
+    /// use thaksipho::{Pair, Wire};
+    ///
+    /// let pair = Pair { lender: Wire(0), taker: Wire(2) };
+    /// assert_eq!(pair.record(), [0x60, 0, 2]);
+    /// ```
+    pub fn record(&self) -> [u8; RECORD_LENGTH] {
+        [KIND, self.lender.0, self.taker.0]
+    }
 }
 
 /// What the greedy choice gives.
@@ -29,10 +45,14 @@ pub struct Greedy {
 /// ```
 /// use thaksipho::{greedy, start, Pair, Refusal, Wire};
 ///
-/// let two_wires = [0x01, 2, 0x10, 0, 0x10, 1, 0x11, 0, 0, 0x11, 1, 1];
-/// let chosen = greedy(&start(&two_wires)?)?;
-/// assert_eq!(chosen.pairs, [Pair { lender: Wire(0), taker: Wire(1) }]);
-/// assert_eq!(chosen.trials, 2);
+/// // B, of document 01: three wires without gates.
+/// let b = [
+///     0x01, 3, 0x10, 0, 0x10, 1, 0x10, 2, 0x11, 0, 0, 0x11, 1, 1, 0x11, 2, 2,
+/// ];
+/// let chosen = greedy(&start(&b)?)?;
+/// let pair = |lender, taker| Pair { lender: Wire(lender), taker: Wire(taker) };
+/// assert_eq!(chosen.pairs, [pair(0, 1), pair(1, 2)]);
+/// assert_eq!(chosen.trials, 8);
 /// # Ok::<(), Refusal>(())
 /// ```
 pub fn greedy(table: &Table) -> Result<Greedy, Refusal> {

@@ -3,6 +3,28 @@
 //! The library itself is written in Rattle, and every function of it is proved to meet its
 //! contract. This crate declares its functions, hands them slices and takes their answers apart.
 //! An answer is a value or a [`Refusal`]; a refusal leaves every lent buffer as it was.
+//!
+//! Reading a circuit, choosing pairs for it and compiling it:
+//!
+//! ```
+//! use thaksipho::{compile, greedy, start, Pair, Refusal};
+//!
+//! // B, of document 01: three wires, reset and measured.
+//! let b = [
+//!     0x01, 3, 0x10, 0, 0x10, 1, 0x10, 2, 0x11, 0, 0, 0x11, 1, 1, 0x11, 2, 2,
+//! ];
+//! let chosen = greedy(&start(&b)?)?;
+//! let list: Vec<u8> = chosen.pairs.iter().flat_map(Pair::record).collect();
+//! let mut out = vec![0; b.len() + 1];
+//! assert_eq!(compile(&b, &list, &mut out), Ok(out.len()));
+//!
+//! // All three on one qubit.
+//! let on_one_qubit = [
+//!     0x02, 1, 3, 0x10, 0, 0x11, 0, 0, 0x10, 0, 0x11, 0, 1, 0x10, 0, 0x11, 0, 2,
+//! ];
+//! assert_eq!(out, on_one_qubit);
+//! # Ok::<(), Refusal>(())
+//! ```
 
 #![deny(missing_docs)]
 #![deny(unsafe_code)]
@@ -10,30 +32,12 @@
 mod boundary;
 pub mod bytes;
 mod greedy;
+mod refusal;
 mod table;
 
 pub use greedy::{greedy, Greedy, Pair};
+pub use refusal::Refusal;
 pub use table::{count, may, offer, score, start, Table, Wire};
-
-use std::error::Error;
-use std::fmt;
-
-/// Why an input is refused, and where.
-#[derive(Clone, Copy, Debug, PartialEq, Eq)]
-pub struct Refusal {
-    /// The number in the table of refusals.
-    pub number: u8,
-    /// The place that goes with the number: an offset, a wire, a pair's index or the length needed.
-    pub place: u32,
-}
-
-impl fmt::Display for Refusal {
-    fn fmt(&self, f: &mut fmt::Formatter<'_>) -> fmt::Result {
-        write!(f, "refused {} at {}", self.number, self.place)
-    }
-}
-
-impl Error for Refusal {}
 
 /// What a valid static circuit is made of.
 #[derive(Clone, Copy, Debug, PartialEq, Eq)]
@@ -49,9 +53,13 @@ pub struct Circuit {
 /// ```
 /// use thaksipho::{read, Circuit, Refusal};
 ///
-/// let one_wire = [0x01, 1, 0x10, 0, 0x11, 0, 0];
-/// assert_eq!(read(&one_wire), Ok(Circuit { wires: 1, instructions: 2 }));
-/// assert_eq!(read(&one_wire[..4]), Err(Refusal { number: 13, place: 0 }));
+/// // A, of document 01: a gate on wires 0 and 1, then one on 1 and 2.
+/// let a = [
+///     0x01, 3, 0x10, 0, 0x10, 1, 0x10, 2, 0x40, 0, 1, 0x40, 1, 2, 0x11, 0, 0, 0x11, 1, 1, 0x11, 2, 2,
+/// ];
+/// assert_eq!(read(&a), Ok(Circuit { wires: 3, instructions: 8 }));
+/// // Without its last record wire 2 is not measured.
+/// assert_eq!(read(&a[..20]), Err(Refusal { number: 13, place: 2 }));
 /// ```
 pub fn read(circuit: &[u8]) -> Result<Circuit, Refusal> {
     let value = outcome(boundary::read(circuit))?;
@@ -64,6 +72,17 @@ pub fn read(circuit: &[u8]) -> Result<Circuit, Refusal> {
 /// Writes the records of a valid static circuit again to the start of `out`, and gives the number
 /// of bytes written. They are the same bytes, and the rest of `out` stays as it was. Where `out` is
 /// too short the refusal is 31, and its place is the length needed.
+///
+/// ```
+/// use thaksipho::{rewrite, Refusal};
+///
+/// let one_wire = [0x01, 1, 0x10, 0, 0x11, 0, 0];
+/// let mut out = [7; 8];
+/// assert_eq!(rewrite(&one_wire, &mut out), Ok(7));
+/// assert_eq!(out[..7], one_wire);
+/// assert_eq!(out[7], 7);
+/// assert_eq!(rewrite(&one_wire, &mut out[..6]), Err(Refusal { number: 31, place: 7 }));
+/// ```
 pub fn rewrite(circuit: &[u8], out: &mut [u8]) -> Result<usize, Refusal> {
     let written = outcome(boundary::rewrite(circuit, out))?;
     Ok(written as usize)
@@ -76,13 +95,24 @@ pub fn rewrite(circuit: &[u8], out: &mut [u8]) -> Result<usize, Refusal> {
 /// place is the length needed.
 ///
 /// ```
-/// use thaksipho::compile;
+/// use thaksipho::{compile, Refusal};
 ///
-/// // Two wires without gates on one qubit: the first lends to the second.
-/// let two_wires = [0x01, 2, 0x10, 0, 0x10, 1, 0x11, 0, 0, 0x11, 1, 1];
-/// let mut out = [0; 13];
-/// assert_eq!(compile(&two_wires, &[0x60, 0, 1], &mut out), Ok(13));
-/// assert_eq!(out, [0x02, 1, 2, 0x10, 0, 0x11, 0, 0, 0x10, 0, 0x11, 0, 1]);
+/// // A, of document 01, on two qubits: wire 0 lends to wire 2.
+/// let a = [
+///     0x01, 3, 0x10, 0, 0x10, 1, 0x10, 2, 0x40, 0, 1, 0x40, 1, 2, 0x11, 0, 0, 0x11, 1, 1, 0x11, 2, 2,
+/// ];
+/// let mut out = [0; 24];
+/// assert_eq!(compile(&a, &[0x60, 0, 2], &mut out), Ok(24));
+/// assert_eq!(
+///     out,
+///     [
+///         0x02, 2, 3, 0x10, 0, 0x10, 1, 0x40, 0, 1, 0x11, 0, 0, 0x10, 0, 0x40, 1, 0, 0x11, 1, 1,
+///         0x11, 0, 2,
+///     ]
+/// );
+/// // Wire 1 cannot lend to wire 2: a gate is on both.
+/// let refused = Refusal { number: 23, place: 0 };
+/// assert_eq!(compile(&a, &[0x60, 1, 2], &mut out), Err(refused));
 /// ```
 pub fn compile(circuit: &[u8], pairs: &[u8], out: &mut [u8]) -> Result<usize, Refusal> {
     let written = outcome(boundary::compile(circuit, pairs, out))?;
@@ -116,6 +146,5 @@ mod tests {
             place: 2,
         };
         assert_eq!(outcome(0x0000_000D_0000_0002), Err(refusal));
-        assert_eq!(refusal.to_string(), "refused 13 at 2");
     }
 }

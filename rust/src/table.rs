@@ -64,6 +64,20 @@ pub fn start(circuit: &[u8]) -> Result<Table, Refusal> {
 }
 
 /// Whether the lender may lend to the taker. Numbers at or above the width are no.
+///
+/// ```
+/// use thaksipho::{may, start, Refusal, Wire};
+///
+/// // A, of document 01: a gate on wires 0 and 1, then one on 1 and 2. Wire 0 can be done before
+/// // wire 2 begins, and not the other way round.
+/// let a = [
+///     0x01, 3, 0x10, 0, 0x10, 1, 0x10, 2, 0x40, 0, 1, 0x40, 1, 2, 0x11, 0, 0, 0x11, 1, 1, 0x11, 2, 2,
+/// ];
+/// let table = start(&a)?;
+/// assert_eq!(may(&table, Wire(0), Wire(2)), Ok(true));
+/// assert_eq!(may(&table, Wire(2), Wire(0)), Ok(false));
+/// # Ok::<(), Refusal>(())
+/// ```
 pub fn may(table: &Table, lender: Wire, taker: Wire) -> Result<bool, Refusal> {
     bytes::may(&table.0, lender, taker)
 }
@@ -85,6 +99,19 @@ pub fn count(table: &Table) -> Result<u32, Refusal> {
 }
 
 /// How many pairs are yes after accepting this one, which is refused as [`offer`] would refuse it.
+///
+/// ```
+/// use thaksipho::{count, score, start, Refusal, Wire};
+///
+/// // B, of document 01: three wires without gates.
+/// let b = [
+///     0x01, 3, 0x10, 0, 0x10, 1, 0x10, 2, 0x11, 0, 0, 0x11, 1, 1, 0x11, 2, 2,
+/// ];
+/// let table = start(&b)?;
+/// assert_eq!(count(&table), Ok(6));
+/// assert_eq!(score(&table, Wire(0), Wire(1)), Ok(2));
+/// # Ok::<(), Refusal>(())
+/// ```
 pub fn score(table: &Table, lender: Wire, taker: Wire) -> Result<u32, Refusal> {
     bytes::score(&table.0, lender, taker)
 }
