@@ -17,7 +17,7 @@ use Rattle.orders.specs.Table.{Start}
 use Rattle.orders.specs.Schedule.{earlierWritten, lenderWritten, ready, least, next, writeOn, schedule, complete, startTable}
 use Rattle.orders.proofs.Indices.{first-or-none, before-right, before-across, put-last, in-put, put-before, put-once}
 use Rattle.orders.proofs.Indices.{every-at, every-from, stands-in, in-stands, from-in, in-from, from-last, full-length, order-length, once-full}
-use Rattle.orders.proofs.Least.{least-miss, least-hit, least-end, least-is}
+use Rattle.orders.proofs.Least.{least-miss, least-hit, least-is}
 use Rattle.orders.proofs.Graph.{arrow-prec, arrow-pair, arrow-cases, run-arrow, arrow-run}
 use Rattle.orders.proofs.Runs.{runs-none, runs-added}
 
@@ -75,10 +75,6 @@ module _ (C : Circuit) (ps : List Pair) (done : List ℕ) where
   pub next-least : (m : ℕ) → m < next C ps done → ready C ps done m ≡ false
   unfolding next
   next-least m l = least-miss (ready C ps done) (C .size) 0 m (omega arith) l
-
-  pub next-end : next C ps done ≤ C .size
-  unfolding next
-  next-end = omega (arith, least-end (ready C ps done) (C .size) 0)
 
   pub next-is : (j : ℕ) → j < C .size → ((m : ℕ) → m < j → ready C ps done m ≡ false) → ready C ps done j ≡ true → next C ps done ≡ j
   unfolding next

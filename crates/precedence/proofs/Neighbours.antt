@@ -55,10 +55,6 @@ module _ (is : List Instruction) where
   prec-leads : (i j : ℕ) → prec is i j ≡ true → Leads (neighbours is) i j
   prec-leads i j h = let r = prec-exactly is i j .0 h in must-leads j (r .0) i j (omega arith) (r .1)
 
-  -- neighbours lead to the same as the precedence
-  pub leads-neighbours : (i j : ℕ) → Leads (neighbours is) i j ↔ Leads (prec is) i j
-  leads-neighbours i j = (leads-more neighbours-prec, leads-paths prec-leads)
-
 module _ (c : Static) (ps : List Pair) where
   drawn-arrow : (i j : ℕ) → arrow (drawnOf c) ps i j ≡ true → arrow (circuitOf c) ps i j ≡ true
   drawn-arrow i j h = elim (arrow-cases (drawnOf c) ps i j h) [

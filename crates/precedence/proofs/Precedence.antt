@@ -16,7 +16,6 @@ use Rattle.orders.specs.Indices.{In}
 use Rattle.orders.specs.Runs.{Lawful}
 use Rattle.orders.proofs.Indices.{any-in, any-which, stands-in}
 use Rattle.records.specs.Records.{line}
-use Rattle.records.specs.declared.numbers.Line.{Line}
 use Rattle.records.specs.declared.numbers.Bit.{Bit}
 use Rattle.records.specs.declared.instructions.Instruction.{Instruction}
 use Rattle.records.specs.declared.instructions.Instruction.the-variants.{Reset, Measurement}
@@ -119,21 +118,6 @@ module _ (c : Static) (wired : Wired c) where
       let h = wired .named x k o in
       let l = spans x h .last k o in
       on-prec (c .steps) x k (measOf (c .steps) x) (omega arith) o (meas-on x h)
-
-  -- different wires have different resets and different measurements
-  pub resets-apart : (x y : ℕ) → wire c x ≡ true → wire c y ≡ true → resetOf (c .steps) x ≡ resetOf (c .steps) y → x ≡ y
-  resets-apart x y h g e =
-      let q : some (Reset (line x)) ≡ some (Reset (line y)) = sym (reset-there x h) ∙ (ap (getElem? (c .steps)) e ∙ reset-there y g) in
-      let l : line x ≡ line y = cc in
-      ap (λ (m : Line). m .0) l
-
-  pub meas-apart : (x y : ℕ) → wire c x ≡ true → wire c y ≡ true → measOf (c .steps) x ≡ measOf (c .steps) y → x ≡ y
-  meas-apart x y h g e =
-      let a = meas-there x h in
-      let b = meas-there y g in
-      let q : some (Measurement (line x) (a .0)) ≡ some (Measurement (line y) (b .0)) = sym (a .1) ∙ (ap (getElem? (c .steps)) e ∙ b .1) in
-      let l : line x ≡ line y = cc in
-      ap (λ (m : Line). m .0) l
 
   -- the precedence of a valid circuit is lawful
   pub circuit-lawful : Lawful (circuitOf c)

@@ -2,14 +2,14 @@
 -- them that is on x. Assumes nothing.
 use Prim.Native.Nat.{ℕ, suc, _+_, _<_}
 use mathlib.Core.Path.{_≡_, refl, sym, ap, subst, _∙_}
-use mathlib.Core.Logic.{_⊎_, inl, inr, _↔_, _≢_}
+use mathlib.Core.Logic.{_⊎_, inl, inr, _↔_}
 use mathlib.Core.Bool.{Bool, true, false, not, _&&_, _||_, false≢true}
-use mathlib.Core.List.{List, [], _∷_, _++_}
+use mathlib.Core.List.{List, [], _∷_}
 use mathlib.Core.Option.{some}
 use native.Mathlib.Omega.{arith}
 use lib.ListN.{length, getElem?}
 use lib.Dec.{eqb}
-use borrow.Author.Tests.{eqb-true, eq-eqb, not-true}
+use borrow.Author.Tests.{eqb-true, not-true}
 use Rattle.basics.specs.Choice.{pick}
 use Rattle.basics.proofs.Tests.{not-both, refuted, not-of-false, both, and-intro, either, or-left, or-right, same-or-other}
 use Rattle.orders.specs.Indices.{any, stands}
@@ -27,7 +27,6 @@ use Rattle.precedence.specs.Lives.{linesOf, touches, resets}
 use Rattle.precedence.specs.Precedence.{holds, at, on, resetOf, measOf, prec, wire, circuitOf, Wired}
 use Rattle.precedence.specs.Starts.{Sets, noSets, readOn, leadingTo, after, pass, leadingSets, startOf}
 use Rattle.precedence.proofs.Paths.{last-arrow}
-use Rattle.precedence.proofs.Spans.{reset-touches, at-more, at-inside, at-front, at-seam}
 use Rattle.precedence.proofs.Precedence.{must-exactly, prec-exactly, on-prec, spans, meas-on, prec-meas, circuit-lawful}
 
 -- ## What each kind of instruction does to the sets, as a loop over rows has it
@@ -87,17 +86,6 @@ module _ (s : Sets) (x t : ℕ) where
       → after (AngledTwoLineGate k l m a) s x t ≡ pick (eqb x (l .0) || eqb x (m .0)) (s (l .0) t || s (m .0) t) (s x t)
   unfolding after leadingTo any stands
   after-angled-two k l m a = two-test (eqb x (l .0)) (eqb x (m .0)) (s (l .0) t) (s (m .0) t) (s x t) (same-set (l .0)) (same-set (m .0))
-
--- instructions that are not on x leave its set
-pass-apart : (is : List Instruction) (s : Sets) (x t : ℕ) → ((k : ℕ) → on is x k ≡ true → ⊥) → pass is s x t ≡ s x t
-unfolding pass after
-pass-apart [] s x t none-on = refl
-pass-apart (i ∷ is) s x t none-on =
-    pass-apart is (after i s) x t (λ k. none-on (suc k)) ∙ step-apart (s x t) (touches x i) (refuted (touches x i) (none-on 0))
-  where
-    step-apart : (r a : Bool) → a ≡ false → (r || (a && leadingTo i s t)) ≡ r
-    step-apart true a h = refl
-    step-apart false a h = rw h
 
 -- ## What the sets say
 
@@ -203,22 +191,6 @@ module _ (c : Static) (wired : Wired c) where
     where
       on-leads : (i : ℕ) → on is l i ≡ true → Leads (prec is) i (measOf is l)
       on-leads i o = elim (same-or-other i (measOf is l)) [ inl e ↦ here e | inr d ↦ step (prec-meas c wired l i o d) (here refl) ]
-
-  -- before its reset the set of a line is empty, so that after it the set is the reset alone
-  pub reset-alone : (front back : List Instruction) (l : Line) → is ≡ front ++ Reset l ∷ back → (t : ℕ) → pass front noSets (l .0) t ≡ false
-  reset-alone front back l e t = pass-apart front noSets (l .0) t early
-    where
-      there : at (resets (l .0)) is (length front) ≡ true
-      there = ap (λ (js : List Instruction). at (resets (l .0)) js (length front)) e ∙ (at-seam (resets (l .0)) front (Reset l) back ∙ eq-eqb (l .0) (l .0) refl)
-
-      early : (k : ℕ) → on front (l .0) k ≡ true → ⊥
-      early k o =
-          let there-on = at-more (resets (l .0)) (touches (l .0)) (reset-touches (l .0)) is (length front) there in
-          let p = spans c wired (l .0) (wired .named (l .0) (length front) there-on) in
-          let a = p .one-reset (length front) there in
-          let b = p .first k (subst (λ js. on js (l .0) k ≡ true) (sym e) (at-front (touches (l .0)) front (Reset l ∷ back) k o)) in
-          let i = at-inside (touches (l .0)) front k o in
-          omega arith
 
   -- the table after the pass is the table at the start
   pub start-right : Start (circuitOf c) (startOf c)

@@ -16,6 +16,7 @@ use Rattle.table.proofs.DemandThree.{demand-three, start-width, offers-right, o
 use Rattle.choosers.specs.Greedy.{greedyFrom}
 use Rattle.choosers.specs.Results.{handedBack, greedyOf}
 use Rattle.choosers.specs.GrownTables.{GrownFrom}
+use Rattle.choosers.proofs.Settling.{greedy-made}
 use Rattle.choosers.proofs.Endings.{greedy-ended, trials-grown, greedy-maximal}
 use Rattle.pairs.specs.Listing.{pairsBytes}
 use Rattle.writer.specs.Compiling.{dynamicOf, compiled}
@@ -37,8 +38,7 @@ module _ (s : List ℕ) (c : Static) (e : readCircuit s ≡ done c) where
   module _ (os : List Pair) where
     -- after any offers greedy makes its choice,
     pub greedy-chooses : greedyOf (offersTo os (grownFrom c) .table) ≡ done (handedBack (greedyFrom (offersTo os (grownFrom c) .table)))
-    unfolding greedyOf
-    greedy-chooses = rw (grown os .right)
+    greedy-chooses = greedy-made (offersTo os (grownFrom c) .table) (grown os .right)
 
     -- no pair can be added to its list with those accepted before,
     pub greedy-is-maximal : Maximal (circuitOf c) (reverseAux (greedyFrom (offersTo os (grownFrom c) .table) .pairs) (offersTo os (grownFrom c) .pairs))

@@ -9,7 +9,7 @@ use mathlib.Core.Option.{Option, none, some}
 use native.Mathlib.Omega.{arith}
 use lib.ListN.{length, getElem?, length-append}
 use borrow.Author.Tests.{ltb-true}
-use Rattle.orders.specs.Indices.{In, Before, from, inputOrder}
+use Rattle.orders.specs.Indices.{In, from, inputOrder}
 use Rattle.orders.specs.Runs.{Circuit, Run, Runs}
 use Rattle.orders.specs.Schedule.{schedule}
 use Rattle.orders.specs.Swaps.{Exchanged, neighbours, later, Reached}
@@ -27,7 +27,7 @@ use Rattle.circuits.specs.Reading.{Static}
 use Rattle.circuits.specs.Validity.{stepsBytes, circuitBytes}
 use Rattle.precedence.specs.Lives.{linesOf}
 use Rattle.precedence.specs.Precedence.{holds, on, circuitOf, Wired}
-use Rattle.precedence.proofs.Precedence.{circuit-lawful, on-prec}
+use Rattle.precedence.proofs.Precedence.{circuit-lawful}
 use Rattle.precedence.proofs.Spans.{at-inside}
 use Rattle.pairs.specs.Lending.{pairsOf}
 use Rattle.writer.specs.Chains.{qubitOf}
@@ -148,10 +148,6 @@ module _ (c : Static) (wired : Wired c) (lenders : List ℕ) where
     -- THEOREM: the order of writing has each instruction once, keeps each wire's order, and has each lender's measurement before its taker's reset.
     pub order-runs : Run (circuitOf c) (pairsOf lenders (c .width)) (orderOf lenders c)
     order-runs = schedule-runs (circuitOf c) (circuit-lawful c wired) (pairsOf lenders (c .width)) runs
-
-    -- THEOREM: of two instructions on one wire the earlier stands first.
-    pub wire-kept : (x i j : ℕ) → i < j → on (c .steps) x i ≡ true → on (c .steps) x j ≡ true → Before i j (orderOf lenders c)
-    wire-kept x i j l a b = order-runs .keeps i j (on-prec (c .steps) x i j l a b)
 
     -- THEOREM: the order is reached from the input order by exchanges of neighbours that share no wire.
     pub order-reached : Reached (circuitOf c) (inputOrder (length (c .steps))) (orderOf lenders c)
