@@ -36,7 +36,7 @@ pairs-back ps =
 
 -- the first of the pairs that are left, and none left
 module _ (entries : List Pair) (n : ℕ) (held : n ≤ length entries) where
-  size : length (firstPairs n entries) ≡ n
+  pub size : length (firstPairs n entries) ≡ n
   size = length-map (take n entries) numbersOf ∙ length-take-le n entries held
 
   pub pair-next : (i : ℕ) (d : Pair) → i < n → drop i (firstPairs n entries) ≡ numbersOf (getD entries i d) ∷ drop (i + 1) (firstPairs n entries)

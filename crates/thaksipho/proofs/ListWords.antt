@@ -1,64 +1,32 @@
--- The records of a pair list: how long they are, and the first of those that are left; and what is told of them. Assumes nothing.
+-- The records of a list that is handed back: whether there is room for them, and what is told. Assumes nothing.
 use Prim.Native.Nat.{ℕ, _+_, _*_, _%_, _≤_, _<_}
 use mathlib.Core.Bool.{Bool, true, false}
 use mathlib.Core.Path.{_≡_, sym, ap, subst, _∙_}
-use mathlib.Core.List.{List, [], _∷_, _++_}
+use mathlib.Core.List.{List}
 use native.Mathlib.Omega.{arith}
-use native.Mathlib.Numerals.{add-one}
-use native.Mathlib.Nat.{suc-mul}
-use lib.ListN.{length, getD, take, drop, drop-of-length-le}
-use lib.Seq.{drop-cons, getD-take, length-take-le}
+use lib.ListN.{length}
 use Rattle.basics.specs.Choice.{pick}
 use Rattle.basics.specs.Outcome.{Outcome, done, refused, handing}
 use Rattle.basics.proofs.Outcomes.{not-refused}
 use Rattle.writing.specs.Writing.{Wrote, fitted, holding}
 use Rattle.writing.proofs.Puts.{fitted-done, fitted-refused}
-use Rattle.records.specs.Bytes.{recordBytes}
-use Rattle.records.specs.declared.instructions.Record.the-variants.{Reuse}
 use Rattle.table.specs.Calls.{wrongWidth}
 use Rattle.table.specs.declared.tables.Table.{Table}
 use Rattle.choosers.specs.Greedy.{greedyFrom}
-use Rattle.choosers.specs.Results.{Sized, handedBack, greedyOf}
+use Rattle.choosers.specs.Results.{pairsOf, Sized, handedBack, greedyOf}
 use Rattle.choosers.specs.declared.answers.PairList.{PairList}
 use Rattle.choosers.specs.declared.answers.Rounds.{Rounds}
-use Rattle.choosers.specs.declared.answers.Pair.{Pair}
+use Rattle.choosers.proofs.HandedLists.{size}
+use Rattle.lists.specs.ListBytes.{listBytes}
+use Rattle.lists.proofs.Records.{records-length}
 use Rattle.thaksipho.specs.Words.{placesEnd, word}
-use Rattle.thaksipho.specs.Lists.{entriesBytes, listBytes, listWritten, listValue, Listed}
+use Rattle.thaksipho.specs.Lists.{listWritten, listValue, Listed}
 use Rattle.thaksipho.proofs.Fitting.{kept}
-
-entries-length : (ps : List Pair) → length (entriesBytes ps) ≡ length ps * 3
-entries-length [] = omega arith
-entries-length (p ∷ ps) = omega (arith, entries-length ps, suc-mul (length ps) 3)
-
--- the first of those that are left
-entries-next : (ps : List Pair) (i : ℕ) (d : Pair) → i < length ps
-    → entriesBytes (drop i ps) ≡ recordBytes (Reuse (getD ps i d .lender) (getD ps i d .taker)) ++ entriesBytes (drop (i + 1) ps)
-entries-next ps i d h = rw add-one (ap entriesBytes (drop-cons ps i d h))
-
--- The loop that writes them
-
-module _ (ps : List Pair) (n : ℕ) (held : n ≤ length ps) where
-  size : length (take n ps) ≡ n
-  size = length-take-le n ps held
-
-  pub entries-room : length (entriesBytes (take n ps)) ≡ n * 3
-  entries-room = entries-length (take n ps) ∙ ap (λ (k : ℕ). k * 3) size
-
-  pub entry-next : (i : ℕ) (d : Pair) → i < n
-      → entriesBytes (drop i (take n ps)) ≡ recordBytes (Reuse (getD ps i d .lender) (getD ps i d .taker)) ++ entriesBytes (drop (i + 1) (take n ps))
-  entry-next i d h =
-      entries-next (take n ps) i d (omega (arith, size))
-      ∙ ap (λ (p : Pair). recordBytes (Reuse (p .lender) (p .taker)) ++ entriesBytes (drop (i + 1) (take n ps))) (getD-take n ps i d h)
-
-  pub entries-over : (i : ℕ) → n ≤ i → entriesBytes (drop i (take n ps)) ≡ []
-  entries-over i h = ap entriesBytes (drop-of-length-le (take n ps) {i = i} (omega (arith, size)))
-
--- What greedy hands back
 
 -- no room, and room
 module _ (l : PairList) (sized : Sized l) (room : ℕ) where
-  records : length (listBytes l) ≡ l .length * 3
-  records = entries-room (l .pairs) (l .length) (sized .held)
+  pub records : length (listBytes l) ≡ l .length * 3
+  records = omega (arith, records-length (pairsOf l), size (l .pairs) (l .length) (sized .held))
 
   pub list-cut : room < l .length * 3 → fitted room (listBytes l) ≡ refused 31 (l .length * 3)
   list-cut h = fitted-refused room (listBytes l) (omega (arith, records)) ∙ ap (λ (n : ℕ). refused 31 n) records

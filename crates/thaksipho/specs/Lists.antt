@@ -1,25 +1,13 @@
 -- The greedy choice handed back as 60 records, with the number of trials and of pairs.
 use Prim.Native.Nat.{ℕ, _+_, _*_}
 use mathlib.Core.Path.{_≡_}
-use mathlib.Core.List.{List, [], _∷_, _++_}
-use lib.ListN.{length, take}
+use mathlib.Core.List.{List}
+use lib.ListN.{length}
 use Rattle.basics.specs.Outcome.{Outcome, done, refused, handing}
 use Rattle.writing.specs.Writing.{fitted, holding}
-use Rattle.records.specs.Bytes.{recordBytes}
-use Rattle.records.specs.declared.instructions.Record.the-variants.{Reuse}
-use Rattle.choosers.specs.declared.answers.Pair.{Pair}
-use Rattle.choosers.specs.declared.answers.PairList.{PairList}
 use Rattle.choosers.specs.declared.answers.Rounds.{Rounds}
+use Rattle.lists.specs.ListBytes.{listBytes}
 use Rattle.thaksipho.specs.Words.{word}
-
--- the records of pairs, one after the other
-abbrev pub entriesBytes : List Pair → List ℕ
-entriesBytes [] = []
-entriesBytes (p ∷ ps) = recordBytes (Reuse (p .lender) (p .taker)) ++ entriesBytes ps
-
--- the records of a list: its entries up to its length
-abbrev pub listBytes : PairList → List ℕ
-listBytes l = entriesBytes (take (l .length) (l .pairs))
 
 -- the list's records, where there is room for them
 abbrev pub listWritten : ℕ → Outcome Rounds → Outcome (List ℕ)

@@ -4,7 +4,8 @@ use mathlib.Core.Path.{refl, ap}
 use mathlib.Core.List.{List}
 use native.Mathlib.Omega.{arith}
 use Rattle.basics.specs.Outcome.{Outcome, handing}
-use Rattle.thaksipho.proofs.ListWords.{list-cut, list-fits, listed-refused, listed-done}
+use Rattle.writing.proofs.Puts.{placed-wrote}
+use Rattle.thaksipho.proofs.ListWords.{records, list-cut, list-fits, listed-refused, listed-done}
 use borrow.Author.Needs.{needs}
 use Rattle.thaksipho.proofs.choosing.hand_list.Statement.{statement}
 use Rattle.thaksipho.proofs.choosing.hand_list.Tie as tie
@@ -25,8 +26,8 @@ returns c =
     listed-refused (c .refusal-word .ensures) (omega (arith, c .before .before .before .before .pre .few))
     (ap (λ (o : Outcome (List ℕ)). handing (r .trials * 256 + r .list .length) o) cut) cut
 
-write-list-requires : tie.Need-write-list-requires
-write-list-requires c κs = search needs
+put-list-requires : tie.Need-put-list-requires
+put-list-requires c κs = search needs
 
 cast-result : tie.Need-cast-result
 cast-result c = search needs
@@ -43,7 +44,9 @@ same-length c = search needs
 returns-2 : tie.Need-returns-2
 returns-2 c =
     let r = c .before .before .before .before .before .before .before .before .args .rounds in
-    listed-done (list-fits (r .list) (c .before .before .before .before .before .before .before .before .pre) _ (c .before .before .before .before .before .if1 .left)) (c .before .before .before .write-list .ensures) refl
+    let size = records (r .list) (c .before .before .before .before .before .before .before .before .pre) 0 in
+    let put = placed-wrote (c .before .before .before .put-list .ensures) (omega arith) in
+    listed-done (list-fits (r .list) (c .before .before .before .before .before .before .before .before .pre) _ (c .before .before .before .before .before .if1 .left)) put refl
 
 pub hand-list-spec : {M : Type 1} → statement M
 hand-list-spec =
@@ -53,7 +56,7 @@ hand-list-spec =
     mul-t8
     refusal-word-requires
     returns
-    write-list-requires
+    put-list-requires
     cast-result
     mul-result
     add-result
