@@ -8,8 +8,9 @@ use native.Mathlib.Omega.{arith}
 use lib.ListN.{length, length-append}
 use Rattle.basics.specs.Outcome.{Outcome, done, refused}
 use Rattle.orders.specs.Runs.{Pair}
+use Rattle.writing.specs.Texts.{text}
 use Rattle.texts.specs.Listings.{summaryLine, pairLine, longestPair}
-use Rattle.texts.proofs.Lengths.{refusal-length, summary-length, pair-length}
+use Rattle.texts.proofs.Lengths.{refusal-length, counts-length, pair-length}
 use Rattle.circuits.specs.Reading.{Static, readCircuit}
 use Rattle.circuits.proofs.Refusals.{refused-circuit}
 use Rattle.table.specs.Limits.{mostWires}
@@ -42,7 +43,9 @@ chosen-length t right =
     let tried = trials-any t right in
     let most = mul-le-mul narrow (mul-le-mul narrow less) in
     let pairs = greedyFrom t .pairs in
-    let first = summary-length (t .width) (length pairs) (greedyFrom t .trials) (omega arith) (omega arith) (omega arith) in
+    let first =
+    counts-length (t .width) (t .width - length pairs) (length pairs) (text " trials ") (greedyFrom t .trials)
+    (omega arith) (omega arith) (omega arith) (omega arith) (omega arith) in
     let lines = lines-length (t .width) narrow pairs (pairs-below t right) in
     omega (arith, length-append (summaryLine (t .width) (length pairs) (greedyFrom t .trials)) (pairLines pairs))
 

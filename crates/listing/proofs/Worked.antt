@@ -9,7 +9,7 @@ use Rattle.writing.specs.Decimals.{decimal}
 use Rattle.records.specs.Kinds.{shapeOf}
 use Rattle.records.specs.Records.{recordAt}
 use Rattle.texts.specs.Lines.{refusalLine}
-use Rattle.texts.specs.Listings.{summaryLine, pairLine}
+use Rattle.texts.specs.Listings.{countsLine, pairLine}
 use Rattle.circuits.specs.Judging.{firstUnfinished, live, judgeReset, judgeGate, judgeMeasurement, judgeTwo}
 use Rattle.circuits.specs.Stepping.{instructionAt, stepAt}
 use Rattle.circuits.specs.Reading.{widthRead, headerOf, checkedAt, ending, readFrom, readCircuit}
@@ -37,5 +37,5 @@ bytes-P10 = 0x01 ∷ 0x02 ∷ 0x10 ∷ 0x00 ∷ 0x10 ∷ 0x01 ∷ 0x11 ∷ 0x00 
 pub worked-listings : (printed bytes-A ≡ text "wires 3 qubits 2 pairs 1 trials 1\n0 lends to 2\n")
     × (printed bytes-B ≡ text "wires 3 qubits 1 pairs 2 trials 8\n0 lends to 1\n1 lends to 2\n")
     × (printed bytes-P10 ≡ text "refused 12 at 9\n")
-unfolding printed startTable readCircuit headerOf widthRead recordAt shapeOf readFrom checkedAt stepAt instructionAt ending firstUnfinished live judgeReset judgeGate judgeMeasurement judgeTwo leadingTo after pass any stands greedyRounds bestPair tryLenders tryTakers counts marksOf acceptedIn bit pack total each summaryLine pairLine refusalLine decimal
+unfolding printed startTable readCircuit headerOf widthRead recordAt shapeOf readFrom checkedAt stepAt instructionAt ending firstUnfinished live judgeReset judgeGate judgeMeasurement judgeTwo leadingTo after pass any stands greedyRounds bestPair tryLenders tryTakers counts marksOf acceptedIn bit pack total each countsLine pairLine refusalLine decimal
 worked-listings = (refl, refl, refl)

@@ -5,7 +5,7 @@ use lib.ListN.{length}
 use Rattle.basics.specs.Outcome.{Outcome, done, refused}
 use Rattle.orders.specs.Runs.{Pair}
 use Rattle.texts.specs.Lines.{refusalLine}
-use Rattle.texts.specs.Listings.{summaryLine, pairLine, longestSummary, longestPair}
+use Rattle.texts.specs.Listings.{summaryLine, pairLine, longestCounts, longestPair}
 use Rattle.table.specs.Starting.{started}
 use Rattle.table.specs.declared.tables.Table.{Table}
 use Rattle.choosers.specs.Greedy.{greedyFrom}
@@ -35,4 +35,4 @@ printed s = linesOf (started s)
 
 -- no listing is longer than that of the most pairs
 abbrev pub longestListing : ℕ
-longestListing = longestSummary + mostPairs * longestPair
+longestListing = longestCounts + mostPairs * longestPair

@@ -13,7 +13,7 @@ ghost use Rattle.choosers.specs.Results.{pairsOf, Sized};
 ghost use Rattle.listing.specs.Printing.{pairLines, chosenLines, printed, longestListing};
 
 // Room for any listing: the first line and the most pairs.
-pub const LONGEST: usize = texts::LONGEST_SUMMARY + PairList::MOST * texts::LONGEST_PAIR;
+pub const LONGEST: usize = texts::LONGEST_COUNTS + PairList::MOST * texts::LONGEST_PAIR;
 
 // Writes the lines of the pairs, in the order of the list.
 fn write_pairs(out: &mut [u8], at: usize, list: PairList) -> usize

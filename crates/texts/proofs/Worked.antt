@@ -1,4 +1,4 @@
--- The lines of some records, of a refusal and of a listing, computed. Assumes nothing.
+-- The lines of some records, of a refusal, of a listing and of what was compiled, computed. Assumes nothing.
 use mathlib.Core.Path.{_≡_, refl}
 use mathlib.Core.List.{_++_}
 use Rattle.writing.specs.Texts.{text}
@@ -7,7 +7,7 @@ use Rattle.records.specs.Records.{line, wire, bit}
 use Rattle.records.specs.declared.instructions.Record.the-variants.{StaticWidth, DynamicWidth, Step, Reuse}
 use Rattle.records.specs.declared.instructions.Instruction.the-variants.{Reset, Measurement, Gate, TwoLineGate}
 use Rattle.texts.specs.Lines.{lineOf, refusalLine}
-use Rattle.texts.specs.Listings.{summaryLine, pairLine}
+use Rattle.texts.specs.Listings.{countsLine, summaryLine, compiledLine, pairLine}
 
 pub worked-lines : (lineOf 0 (StaticWidth 3) ≡ text "0 static width 3\n")
     × (lineOf 0 (DynamicWidth 2 3) ≡ text "0 dynamic width 2 3\n")
@@ -22,5 +22,10 @@ worked-lines = (refl, refl, refl, refl, refl, refl, refl, refl)
 
 -- document 01's listing of A
 pub worked-listing : summaryLine 3 1 1 ++ pairLine 0 2 ≡ text "wires 3 qubits 2 pairs 1 trials 1\n0 lends to 2\n"
-unfolding summaryLine pairLine decimal
+unfolding countsLine pairLine decimal
 worked-listing = refl
+
+-- P1
+pub worked-compiled : compiledLine 3 2 1 24 ≡ text "wires 3 qubits 2 pairs 1 bytes 24\n"
+unfolding countsLine decimal
+worked-compiled = refl

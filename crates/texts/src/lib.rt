@@ -5,8 +5,9 @@ pub mod places;
 pub mod refusals;
 
 pub use lines::put_line;
+pub use listings::LONGEST_COUNTS;
 pub use listings::LONGEST_PAIR;
-pub use listings::LONGEST_SUMMARY;
+pub use listings::put_compiled;
 pub use listings::put_pair;
 pub use listings::put_summary;
 pub use places::put_at;

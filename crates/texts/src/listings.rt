@@ -1,13 +1,13 @@
-// The lines of a listing: how many wires, qubits, pairs and trials there are, then each pair.
+// The lines of a listing: how many wires, qubits, pairs and trials there are, then each pair; and the line of what was compiled.
 use records::Wire;
 ghost use mathlib.Core.Path.{_≡_};
 ghost use Prim.Native.Nat.{_-_, _≤_};
 ghost use lib.ListN.{length};
 ghost use Rattle.writing.specs.Writing.{Placed, Written};
-ghost use Rattle.texts.specs.Listings.{summaryLine, pairLine, longestSummary, longestPair};
+ghost use Rattle.texts.specs.Listings.{countsLine, summaryLine, compiledLine, pairLine, longestWord, longestCounts, longestPair};
 
-// Room for the longest first line.
-pub const LONGEST_SUMMARY: usize = 110;
+// Room for the longest line of counts.
+pub const LONGEST_COUNTS: usize = 110;
 
 // Room for the longest line of a pair.
 pub const LONGEST_PAIR: usize = 17;
@@ -19,28 +19,53 @@ fn qubits_of(wires: usize, pairs: usize) -> usize
     if wires < pairs { 0 } else { wires - pairs }
 }
 
-// The first line at the front of a buffer that has room for any.
-fn write_summary(line: &mut [u8], wires: usize, pairs: usize, trials: usize) -> usize
-    requires { ⌜ longestSummary ≤ length (now line) ⌝ }
-    ensures { λ to. ⌜ Written (now (line .entry)) 0 longestSummary (summaryLine wires pairs trials) (now (line .exit)) to ⌝ }
+// A line of counts at the front of a buffer that has room for any: the wires, the qubits, the pairs, and a number behind its word.
+fn write_counts(
+    line: &mut [u8],
+    wires: usize,
+    qubits: usize,
+    pairs: usize,
+    word: &[u8],
+    last: usize,
+) -> usize
+    requires { ⌜ longestCounts ≤ length (now line) ⌝ }
+    requires { ⌜ length (now word) ≤ longestWord ⌝ }
+    ensures { λ to. ⌜ Written (now (line .entry)) 0 longestCounts (countsLine wires qubits pairs (now (word .entry)) last) (now (line .exit)) to ⌝ }
 {
     let named = writing::put_bytes(line, 0, b"wires ");
     let wide = writing::put_number(line, named, wires);
     let narrowing = writing::put_bytes(line, wide, b" qubits ");
-    let narrow = writing::put_number(line, narrowing, qubits_of(wires, pairs));
+    let narrow = writing::put_number(line, narrowing, qubits);
     let pairing = writing::put_bytes(line, narrow, b" pairs ");
     let paired = writing::put_number(line, pairing, pairs);
-    let trying = writing::put_bytes(line, paired, b" trials ");
-    let tried = writing::put_number(line, trying, trials);
-    writing::put_bytes(line, tried, b"\n")
+    let ending = writing::put_bytes(line, paired, word);
+    let ended = writing::put_number(line, ending, last);
+    writing::put_bytes(line, ended, b"\n")
 }
 
 // Puts a listing's first line into a buffer as `put_bytes` puts bytes.
 pub fn put_summary(out: &mut [u8], at: usize, wires: usize, pairs: usize, trials: usize) -> usize
     ensures { λ to. ⌜ Placed (now (out .entry)) at (summaryLine wires pairs trials) (now (out .exit)) to ⌝ }
 {
-    let mut line = [0u8; LONGEST_SUMMARY];
-    let length = write_summary(&mut line, wires, pairs, trials);
+    let mut line = [0u8; LONGEST_COUNTS];
+    let qubits = qubits_of(wires, pairs);
+    let length = write_counts(&mut line, wires, qubits, pairs, b" trials ", trials);
+    writing::put_bytes(out, at, &line[..length])
+}
+
+// Puts the line of what was compiled into a buffer as `put_bytes` puts bytes.
+pub fn put_compiled(
+    out: &mut [u8],
+    at: usize,
+    wires: usize,
+    qubits: usize,
+    pairs: usize,
+    bytes: usize,
+) -> usize
+    ensures { λ to. ⌜ Placed (now (out .entry)) at (compiledLine wires qubits pairs bytes) (now (out .exit)) to ⌝ }
+{
+    let mut line = [0u8; LONGEST_COUNTS];
+    let length = write_counts(&mut line, wires, qubits, pairs, b" bytes ", bytes);
     writing::put_bytes(out, at, &line[..length])
 }
 
