@@ -6,11 +6,11 @@ use borrow.Author.Needs.{needs}
 use Rattle.list.proofs.main.Statement.{statement}
 use Rattle.list.proofs.main.Tie as tie
 
-slice-aggregate-fill : tie.Need-slice-aggregate-fill
-slice-aggregate-fill c = search needs
+slice-aggregate-read-circuit : tie.Need-slice-aggregate-read-circuit
+slice-aggregate-read-circuit c = search needs
 
-fill-requires : tie.Need-fill-requires
-fill-requires c κs = search needs
+read-circuit-requires : tie.Need-read-circuit-requires
+read-circuit-requires c κs = search needs
 
 slice-aggregate-fail : tie.Need-slice-aggregate-fail
 slice-aggregate-fail c = search needs
@@ -58,8 +58,8 @@ pub main-spec : {M : Type 1} → statement M
 main-spec =
     tie.close
     (tie.spec
-    slice-aggregate-fill
-    fill-requires
+    slice-aggregate-read-circuit
+    read-circuit-requires
     slice-aggregate-fail
     fail-requires
     returns

@@ -1,18 +1,18 @@
--- `list::fill` is safe and ends, and its count is within the buffer. The loop's invariant: the buffer keeps its length, and the
+-- `inputs::fill` is safe and ends, and its count is within the buffer. The loop's invariant: the buffer keeps its length, and the
 -- count is within it. The measure is the room left. Assumes nothing.
 use Prim.Native.Nat.{_-_, _≤_}
 use mathlib.Core.Path.{_≡_, refl}
 use native.Mathlib.Omega.{arith}
 use lib.ListN.{length}
 use borrow.Author.Needs.{needs}
-use Rattle.list.proofs.fill.Statement.{statement}
-use Rattle.list.proofs.fill.Tie as tie
+use Rattle.inputs.proofs.fill.Statement.{statement}
+use Rattle.inputs.proofs.fill.Tie as tie
 
 abbrev Inv-loop : tie.InvT-loop
-Inv-loop buffer₀ count₀ buffer count = (length buffer ≡ length buffer₀) × (count ≤ length buffer)
+Inv-loop descriptor buffer₀ count₀ buffer count = (length buffer ≡ length buffer₀) × (count ≤ length buffer)
 
 abbrev μ-loop : tie.MeasureT-loop
-μ-loop buffer₀ count₀ buffer count = length buffer₀ - count
+μ-loop descriptor buffer₀ count₀ buffer count = length buffer₀ - count
 
 loop-holds : tie.Need-loop-holds Inv-loop μ-loop
 loop-holds c = (refl, omega arith)
