@@ -30,7 +30,7 @@ use Rattle.writer.specs.Outputs.{output, outputOf}
 use Rattle.writer.specs.Compiling.{Dynamic, dynamic, dynamicOf, inRoom, writtenFor, compiledFrom, compiled, bytesOf, countsOf, Compiled}
 use Rattle.writer.specs.declared.compiling.Counts.{Counts}
 use Rattle.writer.proofs.Listed.{same-pairs}
-use Rattle.writer.proofs.Allowed.{list-length}
+use Rattle.writer.proofs.Allowed.{list-length, qubits-and-list}
 
 -- ## What the pair list's answer says
 
@@ -120,6 +120,10 @@ module _ (s list : List ℕ) {told : Circuit} (a : Accepted s told) where
     -- the dynamic circuit has one byte more than the static one
     pub compiled-length : length (outputOf (lendersIn (g .pairs)) (readCircuit s)) ≡ length s + 1
     compiled-length = list-length (a .circuit) wired (lendersIn (g .pairs)) (g .pairs) same allowed s (a .is)
+
+    -- its qubits and its pairs together are as many as the wires
+    pub compiled-qubits : qubits (lendersIn (g .pairs)) (a .circuit .width) + length (g .pairs) ≡ a .circuit .width
+    compiled-qubits = qubits-and-list (a .circuit) wired (lendersIn (g .pairs)) (g .pairs) same allowed
 
   -- by what the code told of the list
   module _ {t : Table} (start : t ≡ beside emptyTable (started s)) {p : Paired} (told-of : p ≡ pairsTold t (readPairs t list)) where
