@@ -1,37 +1,38 @@
--- Which heads may be written, and the least of them: what the code finds at a head's place is what the definition says, and the turns of
--- the search for the least. Assumes nothing.
-use Prim.Native.Nat.{ℕ, _+_, _-_, _≤_, _<_}
+-- Which heads may be written, and the least of them: what is kept of a head says what the definition says, and the turns of the search for
+-- the least. Assumes nothing.
+use Prim.Native.Nat.{ℕ, _+_, _≤_, _<_}
 use mathlib.Core.Path.{_≡_, refl, sym, ap, subst, _∙_}
 use mathlib.Core.Logic.{inl, inr}
 use mathlib.Core.Bool.{Bool, true, false}
 use mathlib.Core.List.{List}
 use native.Mathlib.Omega.{arith}
-use lib.ListN.{getD}
-use Rattle.basics.specs.Outcome.{done}
-use Rattle.basics.proofs.Tests.{same-or-other, not-both}
+use lib.ListN.{getD, getElem?}
+use Rattle.basics.proofs.Tests.{same-or-other, not-both, refuted}
 use Rattle.records.specs.declared.instructions.Instruction.{Instruction}
-use Rattle.circuits.specs.Limits.{mostInstructions}
-use Rattle.circuits.specs.Stepping.{step, end, stepAt}
 use Rattle.circuits.specs.declared.circuit.Circuit.{Circuit}
 use Rattle.precedence.specs.Precedence.{holds}
-use Rattle.writer.specs.Heads.{touchedOf, stepsIn, Stands, mayWrite, candidate, Chosen}
-use Rattle.writer.proofs.Standing.{stands-next, stands-none}
+use Rattle.precedence.proofs.Spans.{at-inside}
+use Rattle.writer.specs.Heads.{touchedOf, touchedBy, Tabled, mayWrite, candidate, Chosen}
+use Rattle.writer.specs.declared.seeking.Touched.{Touched}
+use Rattle.writer.proofs.Heads.{there}
 
--- ## A head at its place
+-- ## A head by what is kept of it
 
-module _ (lenders indices places : List ℕ) (c : Circuit) (s : List ℕ) (x : ℕ) {index place : ℕ} (i : index ≡ getD indices x 0)
-    (p : place ≡ getD places x 0) (h : Stands s (getD indices x 0) (getD places x 0)) where
-  -- at the end of the input no head is left
-  pub no-candidate : stepAt s place (mostInstructions - index) ≡ done end → false ≡ candidate lenders indices c (stepsIn s) x
+module _ (c : Circuit) {is : List Instruction} {forms firsts seconds : List ℕ} (tab : Tabled is (c .instructions) forms firsts seconds)
+    (lenders indices : List ℕ) (x : ℕ) {index : ℕ} (i : index ≡ getD indices x 0) where
+  -- past the last instruction no head is left
+  pub no-candidate : c .instructions ≤ index → false ≡ candidate lenders indices c is x
   unfolding candidate
-  no-candidate e = rw (stands-none s (getD indices x 0) (getD places x 0) h (rw (i, p) at e))
+  no-candidate l = sym (refuted _ (λ h. omega (arith, at-inside (λ j. mayWrite lenders indices c (getD indices x 0) (touchedOf j)) is (getD indices x 0) h, tab .all)))
 
-  pub is-candidate : {found : Instruction} {next : ℕ} {b : Bool} → stepAt s place (mostInstructions - index) ≡ done (step found next)
-      → b ≡ mayWrite lenders indices c index (touchedOf found) → b ≡ candidate lenders indices c (stepsIn s) x
+  pub is-candidate : {t : Touched} {b : Bool} → index < c .instructions → t ≡ touchedBy (getD forms index 0) (getD firsts index 0) (getD seconds index 0)
+      → b ≡ mayWrite lenders indices c index t → b ≡ candidate lenders indices c is x
   unfolding candidate
-  is-candidate {found} e m =
-      m ∙ ap (λ k. mayWrite lenders indices c k (touchedOf found)) i
-      ∙ ap (holds (λ j. mayWrite lenders indices c (getD indices x 0) (touchedOf j))) (sym (stands-next s (getD indices x 0) (getD places x 0) h (rw (i, p) at e) .this))
+  is-candidate {t} {b} l same m =
+      let it = there is index (omega (arith, tab .all)) in
+      subst (λ k. b ≡ holds (λ j. mayWrite lenders indices c k (touchedOf j)) (getElem? is k)) i
+      (m ∙ ap (mayWrite lenders indices c index) (same ∙ tab .touched index (it .0) (it .1))
+      ∙ ap (holds (λ j. mayWrite lenders indices c index (touchedOf j))) (sym (it .1)))
 
 -- ## The least
 

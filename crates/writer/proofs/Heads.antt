@@ -104,9 +104,9 @@ pub record Head (is : List Instruction) (done : List ℕ) (x k : ℕ) : Type 0 w
 
 module _ (is : List Instruction) (x : ℕ) where
   -- before anything is written it is the first on the wire
-  pub head-first : {k : ℕ} → k ≤ length is → NextOn is x 0 k → Head is [] x k
-  head-first l h = record {
-    inside = l;
+  pub head-first : {k : ℕ} → NextOn is x 0 k → Head is [] x k
+  head-first h = record {
+    inside = h .inside;
     past = λ i b o. absurd (not-both (on is x i) o (h .between i (omega arith) b));
     coming = λ i b o n. n;
     here = h .here;
@@ -126,9 +126,9 @@ module _ (is : List Instruction) (x : ℕ) where
     }
 
     -- written itself, it moves to the next on the wire
-    pub head-moved : {k : ℕ} → k ≤ length is → Head is done x j → NextOn is x (j + 1) k → Head is (done ++ j ∷ []) x k
-    head-moved {k} l h m = record {
-      inside = l;
+    pub head-moved : {k : ℕ} → Head is done x j → NextOn is x (j + 1) k → Head is (done ++ j ∷ []) x k
+    head-moved {k} h m = record {
+      inside = m .inside;
       past = λ i b o. elim (below-or-not i j) [
         | inl a ↦ in-left i done (j ∷ []) (h .past i a o)
         | inr a ↦ elim (same-or-other i j) [

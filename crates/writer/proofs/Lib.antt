@@ -1,9 +1,10 @@
 pub mod Pairs
 pub mod Chains
 pub mod Standing
-pub mod Candidates
-pub mod Moves
+pub mod Notes
 pub mod Heads
+pub mod Links
+pub mod Candidates
 pub mod Turns
 pub mod Written
 pub mod Stretches

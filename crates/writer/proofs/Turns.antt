@@ -15,7 +15,6 @@ use Rattle.orders.specs.Indices.{In}
 use Rattle.orders.specs.Runs.{Pair}
 use Rattle.orders.specs.Runs as runs
 use Rattle.orders.specs.Schedule.{ready, next, writeOn, schedule}
-use Rattle.orders.proofs.Indices.{in-or-out, in-stands, stands-in}
 use Rattle.orders.proofs.Schedule.{Written, written-none, written-more, next-ready, next-is, writeOn-more, writeOn-stuck, writeOn-end}
 use Rattle.writing.specs.Writing.{Wrote, Placed}
 use Rattle.writing.proofs.Remaining.{Remaining, remaining-start, remaining-placed, remaining-end}
@@ -24,23 +23,25 @@ use Rattle.records.specs.Records.{line}
 use Rattle.records.specs.declared.instructions.Instruction.{Instruction}
 use Rattle.records.specs.declared.instructions.Instruction.the-variants.{Reset, Measurement, Gate, AngledGate, TwoLineGate, AngledTwoLineGate}
 use Rattle.records.specs.declared.instructions.Record.the-variants.{Step}
-use Rattle.circuits.specs.Limits.{mostInstructions}
+use Rattle.circuits.specs.Limits.{mostWires, mostInstructions}
 use Rattle.circuits.specs.Stepping.{step, end, stepAt}
 use Rattle.circuits.specs.Validity.{stepsBytes}
 use Rattle.circuits.specs.Rewriting.{stepsOf}
 use Rattle.circuits.specs.declared.circuit.Circuit.{Circuit}
 use Rattle.circuits.proofs.Rewrites.{Accepted}
 use Rattle.circuits.proofs.Validity.{read-valid}
-use Rattle.precedence.specs.Lives.{linesOf, touches}
-use Rattle.precedence.specs.Precedence.{holds, on, circuitOf, Wired}
+use Rattle.precedence.specs.Lives.{linesOf}
+use Rattle.precedence.specs.Precedence.{circuitOf, Wired}
 use Rattle.precedence.proofs.Precedence.{read-wired, circuit-lawful}
 use Rattle.precedence.proofs.Spans.{at-inside}
 use Rattle.pairs.specs.Lending.{pairsOf}
 use Rattle.writer.specs.Chains.{qubitOf}
 use Rattle.writer.specs.Outputs.{renamed, inOrder, dynamicSteps, Renames}
-use Rattle.writer.specs.Heads.{touchedOf, wiresOf, stepsIn, Stands, NextOn, Advanced, Named, Started, HeadsStand, mayWrite, candidate, Chooses}
-use Rattle.writer.proofs.Standing.{wires-lines, Found, stands-next, stands-last}
-use Rattle.writer.proofs.Moves.{Left, advanced-indices, advanced-places, advanced-left}
+use Rattle.writer.specs.Heads.{touchedOf, wiresOf, stepsIn, Stands, NextOn, Notes, Tabled, Linked, headed, mayWrite, candidate, Chooses}
+use Rattle.writer.specs.declared.seeking.Touched.{Touched}
+use Rattle.writer.proofs.Standing.{wires-lines, stands-next, stands-last}
+use Rattle.writer.proofs.Notes.{noted-tabled}
+use Rattle.writer.proofs.Links.{first-in, second-in, headed-length, headed-each, wire-on, wire-off}
 use Rattle.writer.proofs.Heads.{Head, head-first, head-kept, head-moved, may-ready, ready-head, ready-may}
 
 -- ## The rest of the order
@@ -123,153 +124,144 @@ module _ (s : List ℕ) (told : Circuit) (a : Accepted s told) (lenders : List �
   same = ap stepsOf (a .is)
 
   -- the heads are those after what is written, and what is still to be written is the rest of the order
-  pub record Going (old : List ℕ) (from : ℕ) (all indices places out : List ℕ) (to left : ℕ) : Type 0 where
+  pub record Going (old : List ℕ) (from : ℕ) (all indices out : List ℕ) (to left : ℕ) : Type 0 where
     pub written : List ℕ
     pub kept : Written C ps written
     pub heads : (x : ℕ) → x < a .circuit .width → Head is written x (getD indices x 0)
-    pub stand : HeadsStand s (told .width) indices places
+    pub sized : length indices ≡ mostWires
     pub rest : Remaining old from all out to (stepsBytes (inOrder q is (restOn C ps left written)))
 
-  pub going-start : {old : List ℕ} {from : ℕ} {all indices places : List ℕ} → all ≡ stepsBytes (dynamicSteps lenders (a .circuit)) → from + length all ≤ length old
-      → Started s (told .width) indices places → Going old from all indices places old from (told .instructions)
-  going-start {old} {from} {all} {indices} e room g = record {
-    written = [];
-    kept = written-none C ps;
-    heads = λ x l. (let h = g .heads x (omega (arith, a .width)) in
-        head-first is x (omega (arith, h .stands .inside, ap length same)) (subst (λ z. NextOn z x 0 (getD indices x 0)) same (h .next)));
-    stand = record { sized-indices = g .sized-indices; sized-places = g .sized-places; heads = λ x l. g .heads x l .stands };
-    rest = subst (λ z. Remaining old from all old from z)
-        (e ∙ ap (λ ks. stepsBytes (inOrder q is ks)) (rest-all C ps ∙ ap (λ n. restOn C ps n []) (sym (a .instructions))))
-        (remaining-start room);
-  }
+  module _ {forms firsts seconds places : List ℕ} (notes : Notes s (length (stepsIn s)) forms firsts seconds places) where
+    tab : Tabled is (told .instructions) forms firsts seconds
+    tab = noted-tabled s a notes
 
-  module _ {old : List ℕ} {from : ℕ} {all indices places out : List ℕ} {to left : ℕ} (g : Going old from all indices places out to left) where
-    ended : restOn C ps left (g .written) ≡ [] → Wrote old from all out to
-    ended e = remaining-end (ap stepsBytes (order-none q is (restOn C ps left (g .written)) e)) (g .rest)
+    pub going-start : {old : List ℕ} {from : ℕ} {all indices afterFirsts afterSeconds : List ℕ} → all ≡ stepsBytes (dynamicSteps lenders (a .circuit))
+        → from + length all ≤ length old → length indices ≡ mostWires
+        → ((is : List Instruction) → Tabled is (told .instructions) forms firsts seconds → Linked is 0 indices afterFirsts afterSeconds)
+        → Going old from all indices old from (told .instructions)
+    going-start {old} {from} {all} e room size linked = record {
+      written = [];
+      kept = written-none C ps;
+      heads = λ x l. head-first is x (linked is tab .heads x (omega (arith, read-valid s (a .is) .narrow)));
+      sized = size;
+      rest = subst (λ z. Remaining old from all old from z)
+          (e ∙ ap (λ ks. stepsBytes (inOrder q is ks)) (rest-all C ps ∙ ap (λ n. restOn C ps n []) (sym (a .instructions))))
+          (remaining-start room);
+    }
 
-    -- all that may be written is
-    pub going-end : left ≡ 0 → Wrote old from all out to
-    going-end e = ended (ap (λ n. restOn C ps n (g .written)) e ∙ rest-none C ps (g .written))
+    module _ {old : List ℕ} {from : ℕ} {all indices out : List ℕ} {to left : ℕ} (g : Going old from all indices out to left) where
+      ended : restOn C ps left (g .written) ≡ [] → Wrote old from all out to
+      ended e = remaining-end (ap stepsBytes (order-none q is (restOn C ps left (g .written)) e)) (g .rest)
 
-    may-same : (x : ℕ) → candidate lenders indices told is x ≡ true → candidate lenders indices told (stepsIn s) x ≡ true
-    may-same x h = subst (λ z. candidate lenders indices told z x ≡ true) (sym same) h
+      -- all that may be written is
+      pub going-end : left ≡ 0 → Wrote old from all out to
+      going-end e = ended (ap (λ n. restOn C ps n (g .written)) e ∙ rest-none C ps (g .written))
 
-    module _ {best : ℕ} (ch : Chooses told (candidate lenders indices told (stepsIn s)) indices best) where
-      -- what is ready is no lower than what was chosen
-      no-lower : (m : ℕ) → m < length is → ready C ps (g .written) m ≡ true → ch .0 ≤ m
-      no-lower m l r =
-          let x = ready-may (a .circuit) wired lenders indices told (a .width) (a .instructions) (g .written) (g .kept) (g .heads) m l r in
-          omega (arith, ch .1 .least (x .0) (omega (arith, x .1, a .width)) (may-same (x .0) (x .3)), x .2)
+      module _ {best : ℕ} (chooses : (is : List Instruction) → Tabled is (told .instructions) forms firsts seconds → Chooses told (candidate lenders indices told is) indices best) where
+        abbrev ch : Chooses told (candidate lenders indices told is) indices best
+        ch = chooses is tab
 
-      -- where nothing was chosen nothing is ready
-      pub going-stuck : told .width ≤ best → Wrote old from all out to
-      going-stuck b = elim (ch .1 .either) [
-        | inl e ↦ elim (below-or-not (next C ps (g .written)) (length is)) [
-          | inl l ↦ (let z = no-lower (next C ps (g .written)) l (next-ready C ps (g .written) l) in absurd (omega (arith, e .1, a .instructions)))
-          | inr l ↦ ended (rest-stuck C ps left (g .written) l)
-        ]
-        | inr e ↦ absurd (omega (arith, e .0))
-      ]
+        -- what is ready is no lower than what was chosen
+        no-lower : (m : ℕ) → m < length is → ready C ps (g .written) m ≡ true → ch .0 ≤ m
+        no-lower m l r =
+            let x = ready-may (a .circuit) wired lenders indices told (a .width) (a .instructions) (g .written) (g .kept) (g .heads) m l r in
+            omega (arith, ch .1 .least (x .0) (omega (arith, x .1, a .width)) (x .3), x .2)
 
-      module _ (b : best < told .width) {index place : ℕ} (i : index ≡ getD indices best 0) (p : place ≡ getD places best 0) where
-        chosen-may : candidate lenders indices told is best ≡ true
-        chosen-may = elim (ch .1 .either) [
-          | inl e ↦ absurd (omega (arith, e .0))
-          | inr e ↦ subst (λ z. candidate lenders indices told z best ≡ true) same (e .1)
+        -- where nothing was chosen nothing is ready
+        pub going-stuck : told .width ≤ best → Wrote old from all out to
+        going-stuck b = elim (ch .1 .either) [
+          | inl e ↦ elim (below-or-not (next C ps (g .written)) (length is)) [
+            | inl l ↦ (let z = no-lower (next C ps (g .written)) l (next-ready C ps (g .written) l) in absurd (omega (arith, e .1, a .instructions)))
+            | inr l ↦ ended (rest-stuck C ps left (g .written) l)
+          ]
+          | inr e ↦ absurd (omega (arith, e .0))
         ]
 
-        chosen-lowest : ch .0 ≡ getD indices best 0
-        chosen-lowest = elim (ch .1 .either) [ inl e ↦ absurd (omega (arith, e .0)) | inr e ↦ sym (e .2) ]
+        module _ (b : best < told .width) {index : ℕ} (i : index ≡ getD indices best 0) where
+          chosen-may : candidate lenders indices told is best ≡ true
+          chosen-may = elim (ch .1 .either) [
+            | inl e ↦ absurd (omega (arith, e .0))
+            | inr e ↦ e .1
+          ]
 
-        -- the head chosen is an instruction, and is ready
-        pub chosen-inside : index < length is
-        unfolding candidate
-        chosen-inside = subst (λ k. k < length is) (sym i) (at-inside (λ j. mayWrite lenders indices told (getD indices best 0) (touchedOf j)) is (getD indices best 0) chosen-may)
+          chosen-lowest : ch .0 ≡ getD indices best 0
+          chosen-lowest = elim (ch .1 .either) [ inl e ↦ absurd (omega (arith, e .0)) | inr e ↦ sym (e .2) ]
 
-        chosen-ready : ready C ps (g .written) index ≡ true
-        chosen-ready = subst (λ k. ready C ps (g .written) k ≡ true) (sym i)
-            (may-ready (a .circuit) wired lenders indices told (a .width) (a .instructions) (g .written) (g .kept) (g .heads) best (omega (arith, a .width)) chosen-may)
+          -- the head chosen is an instruction, and is ready
+          pub chosen-inside : index < length is
+          unfolding candidate
+          chosen-inside = subst (λ k. k < length is) (sym i) (at-inside (λ j. mayWrite lenders indices told (getD indices best 0) (touchedOf j)) is (getD indices best 0) chosen-may)
 
-        -- so it is what comes next
-        chosen-next : next C ps (g .written) ≡ index
-        chosen-next = next-is C ps (g .written) index chosen-inside
-            (λ m l. refuted _ (λ r. let z = no-lower m (omega (arith, chosen-inside)) r in omega (arith, chosen-lowest)))
-            chosen-ready
+          pub chosen-below : index < mostInstructions
+          chosen-below = omega (arith, chosen-inside, read-valid s (a .is) .few)
 
-        pub chosen-stands : Stands s index place
-        chosen-stands = rw (i, p) (g .stand .heads best b)
+          chosen-ready : ready C ps (g .written) index ≡ true
+          chosen-ready = subst (λ k. ready C ps (g .written) k ≡ true) (sym i)
+              (may-ready (a .circuit) wired lenders indices told (a .width) (a .instructions) (g .written) (g .kept) (g .heads) best (omega (arith, a .width)) chosen-may)
 
-        pub not-over : stepAt s place (mostInstructions - index) ≡ done end → ⊥
-        not-over e = omega (arith, stands-last s index place chosen-stands e, chosen-inside, ap length same)
+          -- so it is what comes next
+          chosen-next : next C ps (g .written) ≡ index
+          chosen-next = next-is C ps (g .written) index chosen-inside
+              (λ m l. refuted _ (λ r. let z = no-lower m (omega (arith, chosen-inside)) r in omega (arith, chosen-lowest)))
+              chosen-ready
 
-        module _ {it : Instruction} {after : ℕ} (e : stepAt s place (mostInstructions - index) ≡ done (step it after)) where
-          pub chosen-found : Found s index place chosen-stands it after
-          chosen-found = stands-next s index place chosen-stands e
+          module _ {place : ℕ} (p : place ≡ getD places index 0) where
+            pub chosen-stands : Stands s index place
+            chosen-stands = rw p (notes .stands index (omega (arith, chosen-inside, ap length same)))
 
-          this : getElem? is index ≡ some it
-          this = subst (λ z. getElem? z index ≡ some it) same (chosen-found .this)
+            pub not-over : stepAt s place (mostInstructions - index) ≡ done end → ⊥
+            not-over e = omega (arith, stands-last s index place chosen-stands e, chosen-inside, ap length same)
 
-          on-line : (x : ℕ) → In x (linesOf it) → on is x index ≡ true
-          on-line x h = ap (holds (touches x)) this ∙ in-stands x (linesOf it) h
+            module _ {it : Instruction} {after : ℕ} (e : stepAt s place (mostInstructions - index) ≡ done (step it after)) where
+              this : getElem? is index ≡ some it
+              this = subst (λ z. getElem? z index ≡ some it) same (stands-next s index place chosen-stands e .this)
 
-          line-low : (x : ℕ) → In x (linesOf it) → x < a .circuit .width
-          line-low x h = ltb-true x (a .circuit .width) (wired .named x index (on-line x h))
+              wire-low : (x : ℕ) → In x (wiresOf (touchedOf it)) → x < a .circuit .width
+              wire-low x h = ltb-true x (a .circuit .width) (wired .named x index (wire-on is index this x h))
 
-          pub chosen-named : Named (wiresOf (touchedOf it))
-          chosen-named x h =
-              omega (arith, line-low x (subst (In x) (wires-lines it) h), read-valid s (a .is) .narrow)
+              in-reach : (x : ℕ) → In x (wiresOf (touchedOf it)) → x < length indices
+              in-reach x h = omega (arith, wire-low x h, read-valid s (a .is) .narrow, g .sized)
 
-          module _ {newIndices newPlaces : List ℕ} (adv : Advanced s (index + 1) (wiresOf (touchedOf it)) indices places newIndices newPlaces) where
-            moves : Advanced s (index + 1) (linesOf it) indices places newIndices newPlaces
-            moves = subst (λ xs. Advanced s (index + 1) xs indices places newIndices newPlaces) (wires-lines it) adv
+              -- the head of one of its wires is the next on the wire
+              head-of-wire : (x : ℕ) → In x (wiresOf (touchedOf it)) → {k : ℕ} → NextOn is x (index + 1) k → Head is (g .written ++ index ∷ []) x k
+              head-of-wire x h n = head-moved is x (g .written) index
+                  (subst (Head is (g .written) x)
+                  (ready-head (a .circuit) wired lenders indices told (a .width) (a .instructions) (g .written) (g .kept) (g .heads) index chosen-ready x (wire-on is index this x h))
+                  (g .heads x (wire-low x h)))
+                  n
 
-            left-at : (x : ℕ) → x < a .circuit .width → Left s (index + 1) (linesOf it) indices places newIndices newPlaces x
-            left-at x l =
-                let narrow = read-valid s (a .is) .narrow in
-                advanced-left moves x (omega (arith, g .stand .sized-indices)) (omega (arith, g .stand .sized-places))
+              module _ {afterFirsts afterSeconds started newIndices : List ℕ} {t : Touched}
+                  (linked : (is : List Instruction) → Tabled is (told .instructions) forms firsts seconds → Linked is 0 started afterFirsts afterSeconds)
+                  (touched : t ≡ touchedOf it) (set : newIndices ≡ headed t (getD afterFirsts index 0) (getD afterSeconds index 0) indices) where
+                new-heads : (x : ℕ) → x < a .circuit .width → Head is (g .written ++ index ∷ []) x (getD newIndices x 0)
+                new-heads x l =
+                    let links = linked is tab in
+                    subst (λ z. Head is (g .written ++ index ∷ []) x (getD z x 0))
+                    (sym (set ∙ ap (λ u. headed u (getD afterFirsts index 0) (getD afterSeconds index 0) indices) touched))
+                    (headed-each (λ y k. Head is (g .written ++ index ∷ []) y k) (touchedOf it) (getD afterFirsts index 0) (getD afterSeconds index 0) indices
+                    (in-reach _ (first-in (touchedOf it))) (in-reach _ (second-in (touchedOf it)))
+                    (head-of-wire _ (first-in (touchedOf it)) (links .after-first index it (omega arith) this))
+                    (head-of-wire _ (second-in (touchedOf it)) (links .after-second index it (omega arith) this))
+                    x (λ n. head-kept is x (g .written) index (wire-off is index this x n) (g .heads x l)))
 
-            head-of-line : (x : ℕ) → (l : x < a .circuit .width) → In x (linesOf it) → Head is (g .written ++ index ∷ []) x (getD newIndices x 0)
-            head-of-line x l h =
-                let n = left-at x l .moved h in
-                let k = ready-head (a .circuit) wired lenders indices told (a .width) (a .instructions) (g .written) (g .kept) (g .heads) index chosen-ready x (on-line x h) in
-                head-moved is x (g .written) index (omega (arith, n .stands .inside, ap length same))
-                (subst (Head is (g .written) x) k (g .heads x l)) (subst (λ z. NextOn z x (index + 1) (getD newIndices x 0)) same (n .next))
+                pub going-on : (numbers : List ℕ) {new : List ℕ} {is-written : Instruction} {stop : ℕ} → 0 < left → Renames lenders (told .width) numbers
+                    → is-written ≡ renamed (λ x. getD numbers x 0) it → Placed out to (recordBytes (Step is-written)) new stop
+                    → Going old from all newIndices new stop (left - 1)
+                going-on numbers {new} {is-written} {stop} l r named placed = record {
+                  written = g .written ++ index ∷ [];
+                  kept = written-more C (circuit-lawful (a .circuit) wired) ps (g .written) index (g .kept) chosen-inside chosen-ready;
+                  heads = new-heads;
+                  sized = ap length set ∙ headed-length t _ _ indices ∙ g .sized;
+                  rest = remaining-placed (stepsBytes (inOrder q is (restOn C ps (left - 1) (g .written ++ index ∷ []))))
+                      (subst (λ z. Placed out to (instructionBytes z) new stop) (named ∙ renamed-same _ q it agree) placed)
+                      (subst (λ z. Remaining old from all out to (stepsBytes z)) (ap (inOrder q is) (order l) ∙ order-next q is index _ this) (g .rest));
+                }
+                  where
+                    agree : (x : ℕ) → In x (linesOf it) → getD numbers x 0 ≡ q x
+                    agree x h = r x (omega (arith, wire-low x (subst (In x) (sym (wires-lines it)) h), read-valid s (a .is) .narrow)) ∙ ap (λ w. qubitOf lenders w x) (a .width)
 
-            new-heads : (x : ℕ) → x < a .circuit .width → Head is (g .written ++ index ∷ []) x (getD newIndices x 0)
-            new-heads x l = elim (in-or-out x (linesOf it)) [
-              | inl h ↦ head-of-line x l h
-              | inr n ↦ subst (Head is (g .written ++ index ∷ []) x) (sym (left-at x l .kept n .0))
-                  (head-kept is x (g .written) index (refuted _ (λ o. n (stands-in x (linesOf it) (sym (ap (holds (touches x)) this) ∙ o)))) (g .heads x l))
-            ]
-
-            new-stand : HeadsStand s (told .width) newIndices newPlaces
-            new-stand = record {
-              sized-indices = advanced-indices moves ∙ g .stand .sized-indices;
-              sized-places = advanced-places moves ∙ g .stand .sized-places;
-              heads = λ x l. (let w = left-at x (omega (arith, a .width)) in elim (in-or-out x (linesOf it)) [
-                | inl h ↦ w .moved h .stands
-                | inr n ↦ rw (w .kept n .0, w .kept n .1) (g .stand .heads x l)
-              ]);
-            }
-
-            pub going-on : (numbers : List ℕ) {new : List ℕ} {is-written : Instruction} {stop : ℕ} → 0 < left → Renames lenders (told .width) numbers
-                → is-written ≡ renamed (λ x. getD numbers x 0) it → Placed out to (recordBytes (Step is-written)) new stop
-                → Going old from all newIndices newPlaces new stop (left - 1)
-            going-on numbers {new} {is-written} {stop} l r named placed = record {
-              written = g .written ++ index ∷ [];
-              kept = written-more C (circuit-lawful (a .circuit) wired) ps (g .written) index (g .kept) chosen-inside chosen-ready;
-              heads = new-heads;
-              stand = new-stand;
-              rest = remaining-placed (stepsBytes (inOrder q is (restOn C ps (left - 1) (g .written ++ index ∷ []))))
-                  (subst (λ z. Placed out to (instructionBytes z) new stop) (named ∙ renamed-same _ q it agree) placed)
-                  (subst (λ z. Remaining old from all out to (stepsBytes z)) (ap (inOrder q is) (order l) ∙ order-next q is index _ this) (g .rest));
-            }
-              where
-                agree : (x : ℕ) → In x (linesOf it) → getD numbers x 0 ≡ q x
-                agree x h = r x (omega (arith, line-low x h, read-valid s (a .is) .narrow)) ∙ ap (λ w. qubitOf lenders w x) (a .width)
-
-                order : 0 < left → restOn C ps left (g .written) ≡ index ∷ restOn C ps (left - 1) (g .written ++ index ∷ [])
-                order l =
-                    let z : left ≡ suc (left - 1) = omega arith in
-                    ap (λ n. restOn C ps n (g .written)) z ∙ rest-more C ps (left - 1) (g .written) (omega (arith, chosen-next, chosen-inside))
-                    ∙ ap (λ k. k ∷ restOn C ps (left - 1) (g .written ++ k ∷ [])) chosen-next
+                    order : 0 < left → restOn C ps left (g .written) ≡ index ∷ restOn C ps (left - 1) (g .written ++ index ∷ [])
+                    order l =
+                        let z : left ≡ suc (left - 1) = omega arith in
+                        ap (λ n. restOn C ps n (g .written)) z ∙ rest-more C ps (left - 1) (g .written) (omega (arith, chosen-next, chosen-inside))
+                        ∙ ap (λ k. k ∷ restOn C ps (left - 1) (g .written ++ k ∷ [])) chosen-next

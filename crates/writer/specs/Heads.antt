@@ -1,16 +1,17 @@
--- The heads, by which the order of writing is computed: for each wire the index and the place of its first instruction that is not yet
--- written. Definitions alone.
-use Prim.Native.Nat.{ℕ, _-_, _≤_, _<_}
+-- The heads, by which the order of writing is computed: for each wire the index of its first instruction that is not yet written. And what is
+-- kept of each instruction. Definitions alone.
+use Prim.Native.Nat.{ℕ, _+_, _-_, _≤_, _<_}
 use mathlib.Core.Path.{_≡_}
 use mathlib.Core.Logic.{_⊎_}
 use mathlib.Core.Bool.{Bool, true, false, not, _&&_, _||_}
 use mathlib.Core.List.{List, [], _∷_}
-use lib.ListN.{length, getD, drop, set}
+use mathlib.Core.Option.{some}
+use lib.ListN.{length, getD, getElem?, drop, set}
 use lib.Dec.{eqb}
+use Rattle.basics.specs.Choice.{pick}
 use Rattle.records.specs.declared.numbers.Wire.{Wire}
 use Rattle.records.specs.declared.instructions.Instruction.{Instruction}
 use Rattle.records.specs.declared.instructions.Instruction.the-variants.{Reset, Measurement, Gate, AngledGate, TwoLineGate, AngledTwoLineGate}
-use Rattle.orders.specs.Indices.{In}
 use Rattle.circuits.specs.Limits.{mostWires, mostInstructions}
 use Rattle.circuits.specs.Stepping.{Steps}
 use Rattle.circuits.specs.Reading.{readCircuit}
@@ -41,6 +42,27 @@ wiresOf (touched.Reset w) = w .0 ∷ []
 wiresOf (touched.One w) = w .0 ∷ []
 wiresOf (touched.Two v w) = v .0 ∷ w .0 ∷ []
 
+-- the first wire, and the second, which is the only one again where there is no other
+abbrev pub firstWire : Touched → ℕ
+firstWire (touched.Reset w) = w .0
+firstWire (touched.One w) = w .0
+firstWire (touched.Two v w) = v .0
+
+abbrev pub secondWire : Touched → ℕ
+secondWire (touched.Reset w) = w .0
+secondWire (touched.One w) = w .0
+secondWire (touched.Two v w) = w .0
+
+-- 0 of a reset, 1 of another on one wire, 2 of one on two
+abbrev pub formOf : Touched → ℕ
+formOf (touched.Reset w) = 0
+formOf (touched.One w) = 1
+formOf (touched.Two v w) = 2
+
+-- the same from the three numbers
+abbrev pub touchedBy : ℕ → ℕ → ℕ → Touched
+touchedBy form first second = pick (eqb form 0) (touched.Reset (wire first)) (pick (eqb form 1) (touched.One (wire first)) (touched.Two (wire first) (wire second)))
+
 -- ## Where instructions stand
 
 -- the instructions of the circuit that the bytes are
@@ -56,44 +78,40 @@ pub record Stands (s : List ℕ) (index place : ℕ) : Type 0 where
 -- an index is that of the first instruction on a wire from another on; the number of instructions where there is none
 pub record NextOn (is : List Instruction) (x start index : ℕ) : Type 0 where
   pub onward : start ≤ index
+  pub inside : index ≤ length is
   pub between : (k : ℕ) → start ≤ k → k < index → on is x k ≡ false
   pub here : index < length is → on is x index ≡ true
 
--- the same with its place
-pub record NextAt (s : List ℕ) (x start index place : ℕ) : Type 0 where
-  pub next : NextOn (stepsIn s) x start index
-  pub stands : Stands s index place
+-- ## What is kept of each instruction, by its index
 
--- the head of a wire moves to its first instruction from an index on
-pub record Moved (s : List ℕ) (x start : ℕ) (indices places newIndices newPlaces : List ℕ) : Type 0 where
-  pub index : ℕ
-  pub place : ℕ
-  pub to : NextAt s x start index place
-  pub indices-are : newIndices ≡ set indices x index
-  pub places-are : newPlaces ≡ set places x place
+-- the lists are long enough for all instructions
+pub record Kept (forms firsts seconds places : List ℕ) : Type 0 where
+  pub sized-forms : length forms ≡ mostInstructions
+  pub sized-firsts : length firsts ≡ mostInstructions
+  pub sized-seconds : length seconds ≡ mostInstructions
+  pub sized-places : length places ≡ mostInstructions
 
--- the heads of these wires move, one after the other
-pub data Advanced (s : List ℕ) (start : ℕ) : List ℕ → List ℕ → List ℕ → List ℕ → List ℕ → Type 0 where
-  stay : {indices places : List ℕ} → Advanced s start [] indices places indices places
-  move : {x : ℕ} {xs indices places midIndices midPlaces newIndices newPlaces : List ℕ}
-      → Moved s x start indices places midIndices midPlaces → Advanced s start xs midIndices midPlaces newIndices newPlaces
-      → Advanced s start (x ∷ xs) indices places newIndices newPlaces
+-- the wires of each instruction below an index, and the place at which it stands
+pub record Notes (s : List ℕ) (below : ℕ) (forms firsts seconds places : List ℕ) : Type 0 where
+  pub touched : (k : ℕ) (i : Instruction) → k < below → getElem? (stepsIn s) k ≡ some i
+      → touchedBy (getD forms k 0) (getD firsts k 0) (getD seconds k 0) ≡ touchedOf i
+  pub stands : (k : ℕ) → k < below → Stands s k (getD places k 0)
 
--- these wires are below the most wires
-abbrev pub Named : List ℕ → Type 0
-Named xs = (x : ℕ) → In x xs → x < mostWires
+-- the lists say the wires of each of these instructions, so many
+pub record Tabled (is : List Instruction) (many : ℕ) (forms firsts seconds : List ℕ) : Type 0 where
+  pub all : length is ≡ many
+  pub named : (x k : ℕ) → on is x k ≡ true → x < mostWires
+  pub touched : (k : ℕ) (i : Instruction) → getElem? is k ≡ some i → touchedBy (getD forms k 0) (getD firsts k 0) (getD seconds k 0) ≡ touchedOf i
 
--- before anything is written each wire's head is its first instruction
-pub record Started (s : List ℕ) (width : ℕ) (indices places : List ℕ) : Type 0 where
-  pub sized-indices : length indices ≡ mostWires
-  pub sized-places : length places ≡ mostWires
-  pub heads : (x : ℕ) → x < width → NextAt s x 0 (getD indices x 0) (getD places x 0)
+-- each wire's head is its first instruction from an index on, and for each instruction from there on the next on its wires are kept
+pub record Linked (is : List Instruction) (start : ℕ) (indices afterFirsts afterSeconds : List ℕ) : Type 0 where
+  pub heads : (x : ℕ) → x < mostWires → NextOn is x start (getD indices x 0)
+  pub after-first : (k : ℕ) (i : Instruction) → start ≤ k → getElem? is k ≡ some i → NextOn is (firstWire (touchedOf i)) (k + 1) (getD afterFirsts k 0)
+  pub after-second : (k : ℕ) (i : Instruction) → start ≤ k → getElem? is k ≡ some i → NextOn is (secondWire (touchedOf i)) (k + 1) (getD afterSeconds k 0)
 
--- each wire's head stands at its place
-pub record HeadsStand (s : List ℕ) (width : ℕ) (indices places : List ℕ) : Type 0 where
-  pub sized-indices : length indices ≡ mostWires
-  pub sized-places : length places ≡ mostWires
-  pub heads : (x : ℕ) → x < width → Stands s (getD indices x 0) (getD places x 0)
+-- the heads after those of an instruction's wires were set, each to its own index
+abbrev pub headed : Touched → ℕ → ℕ → List ℕ → List ℕ
+headed t first second indices = set (set indices (firstWire t) first) (secondWire t) second
 
 -- ## What may be written
 

@@ -1,18 +1,19 @@
 // What comes next: of the heads that may be written, the one earliest in the input.
+use crate::noting::touched_at;
 use crate::seeking::Touched;
-use crate::seeking::wires_of;
 use circuits::Circuit;
-use circuits::Found;
-use circuits::step_at;
 use pairs::Lenders;
 use records::Wire;
 ghost use mathlib.Core.Path.{_≡_};
+ghost use Prim.Native.Nat.{_≤_};
+ghost use mathlib.Core.List.{List};
 ghost use lib.ListN.{getD, length};
-ghost use Rattle.circuits.specs.Limits.{mostWires};
-ghost use Rattle.writer.specs.Heads.{stepsIn, Stands, HeadsStand, isFree, mayWrite, candidate, Chooses};
+ghost use Rattle.records.specs.declared.instructions.Instruction.{Instruction};
+ghost use Rattle.circuits.specs.Limits.{mostWires, mostInstructions};
+ghost use Rattle.writer.specs.Heads.{Tabled, isFree, mayWrite, candidate, Chooses};
 
 // What is kept of a wire; 0 past the last wire.
-pub(crate) fn of_wire(kept: &[usize; Circuit::MOST_WIRES], wire: Wire) -> usize
+pub(crate) fn of_wire(kept: &[u16; Circuit::MOST_WIRES], wire: Wire) -> u16
     requires { ⌜ length (now kept) ≡ mostWires ⌝ }
     ensures { λ r. ⌜ r ≡ getD (now (kept .entry)) (wire .0) 0 ⌝ }
 {
@@ -27,14 +28,14 @@ pub(crate) fn of_wire(kept: &[usize; Circuit::MOST_WIRES], wire: Wire) -> usize
 fn is_free(
     lenders: Lenders,
     valid: Circuit,
-    indices: &[usize; Circuit::MOST_WIRES],
+    indices: &[u16; Circuit::MOST_WIRES],
     wire: Wire,
 ) -> bool
     requires { ⌜ length (now indices) ≡ mostWires ⌝ }
     ensures { λ r. ⌜ r ≡ isFree (lenders .lenders) (now (indices .entry)) valid (wire .0) ⌝ }
 {
     if lenders.takes(valid.width, wire) {
-        return of_wire(indices, lenders.lender_of(wire)) == valid.instructions;
+        return of_wire(indices, lenders.lender_of(wire)) as usize == valid.instructions;
     }
     true
 }
@@ -43,8 +44,8 @@ fn is_free(
 fn may_write(
     lenders: Lenders,
     valid: Circuit,
-    indices: &[usize; Circuit::MOST_WIRES],
-    index: usize,
+    indices: &[u16; Circuit::MOST_WIRES],
+    index: u16,
     touched: Touched,
 ) -> bool
     requires { ⌜ length (now indices) ≡ mostWires ⌝ }
@@ -69,51 +70,51 @@ fn may_write(
 
 // Whether the head of a wire may be written.
 fn candidate(
-    circuit: &[u8],
     lenders: Lenders,
     valid: Circuit,
-    indices: &[usize; Circuit::MOST_WIRES],
-    places: &[usize; Circuit::MOST_WIRES],
+    indices: &[u16; Circuit::MOST_WIRES],
+    forms: &[u8; Circuit::MOST_INSTRUCTIONS],
+    firsts: &[u8; Circuit::MOST_INSTRUCTIONS],
+    seconds: &[u8; Circuit::MOST_INSTRUCTIONS],
     wire: Wire,
 ) -> bool
     requires { ⌜ length (now indices) ≡ mostWires ⌝ }
-    requires { ⌜ length (now places) ≡ mostWires ⌝ }
-    requires { ⌜ Stands (now circuit) (getD (now indices) (wire .0) 0) (getD (now places) (wire .0) 0) ⌝ }
-    ensures { λ r. ⌜ r ≡ candidate (lenders .lenders) (now (indices .entry)) valid (stepsIn (now (circuit .entry))) (wire .0) ⌝ }
+    requires { ⌜ valid .instructions ≤ mostInstructions ⌝ }
+    ensures { λ r. ⌜ ((is : List Instruction) → Tabled is (valid .instructions) (now (forms .entry)) (now (firsts .entry)) (now (seconds .entry)) → r ≡ candidate (lenders .lenders) (now (indices .entry)) valid is (wire .0)) ⌝ }
 {
     let index = of_wire(indices, wire);
-    match step_at(
-        circuit,
-        of_wire(places, wire),
-        Circuit::MOST_INSTRUCTIONS - index,
-    ) {
-        Found::End => false,
-        Found::Refused(_) => false,
-        Found::Step {
-            instruction,
-            next: _,
-        } => may_write(lenders, valid, indices, index, wires_of(instruction)),
+    if valid.instructions <= index as usize {
+        return false;
     }
+    may_write(
+        lenders,
+        valid,
+        indices,
+        index,
+        touched_at(forms, firsts, seconds, index),
+    )
 }
 
 // The wire whose head comes next; the width where no head may be written.
 pub(crate) fn choose(
-    circuit: &[u8],
     lenders: Lenders,
     valid: Circuit,
-    indices: &[usize; Circuit::MOST_WIRES],
-    places: &[usize; Circuit::MOST_WIRES],
+    indices: &[u16; Circuit::MOST_WIRES],
+    forms: &[u8; Circuit::MOST_INSTRUCTIONS],
+    firsts: &[u8; Circuit::MOST_INSTRUCTIONS],
+    seconds: &[u8; Circuit::MOST_INSTRUCTIONS],
 ) -> u8
-    requires { ⌜ HeadsStand (now circuit) (valid .width) (now indices) (now places) ⌝ }
-    ensures { λ r. ⌜ Chooses valid (candidate (lenders .lenders) (now (indices .entry)) valid (stepsIn (now (circuit .entry)))) (now (indices .entry)) r ⌝ }
+    requires { ⌜ length (now indices) ≡ mostWires ⌝ }
+    requires { ⌜ valid .instructions ≤ mostInstructions ⌝ }
+    ensures { λ r. ⌜ ((is : List Instruction) → Tabled is (valid .instructions) (now (forms .entry)) (now (firsts .entry)) (now (seconds .entry)) → Chooses valid (candidate (lenders .lenders) (now (indices .entry)) valid is) (now (indices .entry)) r) ⌝ }
 {
     let mut best = valid.width;
     let mut lowest = valid.instructions;
     let mut x: u8 = 0;
     while x < valid.width {
-        let index = of_wire(indices, Wire(x));
+        let index = of_wire(indices, Wire(x)) as usize;
         if index < lowest {
-            if candidate(circuit, lenders, valid, indices, places, Wire(x)) {
+            if candidate(lenders, valid, indices, forms, firsts, seconds, Wire(x)) {
                 best = x;
                 lowest = index;
             }

@@ -4,6 +4,7 @@ mod chaining;
 mod choosing;
 mod compiling;
 mod dynamic;
+mod noting;
 mod renaming;
 mod seeking;
 

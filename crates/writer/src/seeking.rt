@@ -1,15 +1,19 @@
-// Where the next instruction of a wire stands, by its index and its place, and the heads that keep it for each wire.
+// The heads: for each wire the index of its first instruction that is not yet written, and for each instruction the next
+// on its wires, by which the heads move.
+use crate::choosing::of_wire;
+use crate::noting::first_wire;
+use crate::noting::second_wire;
+use crate::noting::touched_at;
 use circuits::Circuit;
-use circuits::Found;
-use circuits::step_at;
 use records::Instruction;
 use records::Wire;
 ghost use mathlib.Core.Path.{_≡_};
 ghost use Prim.Native.Nat.{_<_, _≤_};
-ghost use lib.ListN.{length};
-ghost use Rattle.orders.specs.Indices.{stands};
-ghost use Rattle.circuits.specs.Limits.{mostWires, headerLength};
-ghost use Rattle.writer.specs.Heads.{touchedOf, wiresOf, Stands, NextAt, Moved, Advanced, Named, Started};
+ghost use mathlib.Core.List.{List};
+ghost use lib.ListN.{length, getD, set, replicate};
+ghost use Rattle.records.specs.declared.instructions.Instruction.{Instruction};
+ghost use Rattle.circuits.specs.Limits.{mostWires, mostInstructions};
+ghost use Rattle.writer.specs.Heads.{touchedOf, firstWire, secondWire, headed, Tabled, Linked};
 
 // The wires that an instruction of the static circuit is on, and whether it is a reset.
 pub enum Touched {
@@ -35,107 +39,70 @@ pub fn wires_of(i: Instruction) -> Touched
     }
 }
 
-fn is_on(touched: Touched, wire: Wire) -> bool
-    ensures { λ r. ⌜ r ≡ stands (wire .0) (wiresOf touched) ⌝ }
-{
-    match touched {
-        Touched::Reset(only) => wire.0 == only.0,
-        Touched::One(only) => wire.0 == only.0,
-        Touched::Two(first, second) => {
-            if wire.0 == first.0 {
-                return true;
-            }
-            wire.0 == second.0
-        }
-    }
-}
-
-// An instruction's index and its place.
-pub struct Spot {
-    pub index: usize,
-    pub place: usize,
-}
-
-// The first instruction on a wire from an index and its place on; the end where there is none.
-fn next_on(circuit: &[u8], wire: Wire, start: usize, from: usize) -> Spot
-    requires { ⌜ Stands (now circuit) start from ⌝ }
-    ensures { λ r. ⌜ NextAt (now (circuit .entry)) (wire .0) start (r .index) (r .place) ⌝ }
-{
-    let mut index = start;
-    let mut place = from;
-    loop {
-        match step_at(circuit, place, Circuit::MOST_INSTRUCTIONS - index) {
-            Found::End => return Spot { index, place },
-            Found::Refused(_) => return Spot { index, place },
-            Found::Step { instruction, next } => {
-                if is_on(wires_of(instruction), wire) {
-                    return Spot { index, place };
-                }
-                index += 1;
-                place = next;
-            }
-        }
-    }
-}
-
-// Moves the head of a wire to its first instruction from an index and its place on.
-fn move_on(
-    circuit: &[u8],
-    wire: Wire,
-    start: usize,
-    from: usize,
-    indices: &mut [usize; Circuit::MOST_WIRES],
-    places: &mut [usize; Circuit::MOST_WIRES],
-)
-    requires { ⌜ Stands (now circuit) start from ⌝ }
-    requires { ⌜ wire .0 < mostWires ⌝ }
-    ensures { λ _. ⌜ Moved (now (circuit .entry)) (wire .0) start (now (indices .entry)) (now (places .entry)) (now (indices .exit)) (now (places .exit)) ⌝ }
-{
-    let spot = next_on(circuit, wire, start, from);
-    let at = wire.0 as usize;
-    indices[at] = spot.index;
-    places[at] = spot.place;
-}
-
-// Moves the heads of an instruction's wires past it.
-pub(crate) fn advance(
-    circuit: &[u8],
-    touched: Touched,
-    start: usize,
-    from: usize,
-    indices: &mut [usize; Circuit::MOST_WIRES],
-    places: &mut [usize; Circuit::MOST_WIRES],
-)
-    requires { ⌜ Stands (now circuit) start from ⌝ }
-    requires { ⌜ Named (wiresOf touched) ⌝ }
-    ensures { λ _. ⌜ Advanced (now (circuit .entry)) start (wiresOf touched) (now (indices .entry)) (now (places .entry)) (now (indices .exit)) (now (places .exit)) ⌝ }
-{
-    match touched {
-        Touched::Reset(only) => move_on(circuit, only, start, from, indices, places),
-        Touched::One(only) => move_on(circuit, only, start, from, indices, places),
-        Touched::Two(first, second) => {
-            move_on(circuit, first, start, from, indices, places);
-            move_on(circuit, second, start, from, indices, places);
-        }
-    }
-}
-
-// Sets each wire's head to its first instruction.
-pub(crate) fn start(
-    circuit: &[u8],
-    width: u8,
-    indices: &mut [usize; Circuit::MOST_WIRES],
-    places: &mut [usize; Circuit::MOST_WIRES],
-)
-    requires { ⌜ Stands (now circuit) 0 headerLength ⌝ }
-    requires { ⌜ width ≤ mostWires ⌝ }
+// Sets the head of a wire; past the last wire there is none.
+fn set_head(indices: &mut [u16; Circuit::MOST_WIRES], wire: Wire, index: u16)
     requires { ⌜ length (now indices) ≡ mostWires ⌝ }
-    requires { ⌜ length (now places) ≡ mostWires ⌝ }
-    ensures { λ _. ⌜ Started (now (circuit .entry)) width (now (indices .exit)) (now (places .exit)) ⌝ }
+    ensures { λ _. ⌜ now (indices .exit) ≡ set (now (indices .entry)) (wire .0) index ⌝ }
 {
-    let mut x: u8 = 0;
-    while x < width {
-        move_on(circuit, Wire(x), 0, Circuit::HEADER, indices, places);
-        x += 1;
+    let n = wire.0 as usize;
+    if n < Circuit::MOST_WIRES {
+        indices[n] = index;
+    }
+}
+
+// Sets the heads of an instruction's wires, each to its own index.
+pub(crate) fn set_heads(
+    touched: Touched,
+    first: u16,
+    second: u16,
+    indices: &mut [u16; Circuit::MOST_WIRES],
+)
+    requires { ⌜ length (now indices) ≡ mostWires ⌝ }
+    ensures { λ _. ⌜ now (indices .exit) ≡ headed touched first second (now (indices .entry)) ⌝ }
+{
+    set_head(indices, first_wire(touched), first);
+    set_head(indices, second_wire(touched), second);
+}
+
+// Keeps what comes after an instruction on its wires, and sets their heads to it.
+fn link_one(
+    index: u16,
+    touched: Touched,
+    indices: &mut [u16; Circuit::MOST_WIRES],
+    after_firsts: &mut [u16; Circuit::MOST_INSTRUCTIONS],
+    after_seconds: &mut [u16; Circuit::MOST_INSTRUCTIONS],
+)
+    requires { ⌜ length (now indices) ≡ mostWires ⌝ }
+    requires { ⌜ index < mostInstructions ⌝ }
+    ensures { λ _. ⌜ now (indices .exit) ≡ headed touched index index (now (indices .entry)) ⌝ }
+    ensures { λ _. ⌜ now («after_firsts» .exit) ≡ set (now («after_firsts» .entry)) index (getD (now (indices .entry)) (firstWire touched) 0) ⌝ }
+    ensures { λ _. ⌜ now («after_seconds» .exit) ≡ set (now («after_seconds» .entry)) index (getD (now (indices .entry)) (secondWire touched) 0) ⌝ }
+{
+    after_firsts[index as usize] = of_wire(indices, first_wire(touched));
+    after_seconds[index as usize] = of_wire(indices, second_wire(touched));
+    set_heads(touched, index, index, indices);
+}
+
+// Keeps for each instruction the next on its wires, from the last back, and leaves each wire's head at its first.
+pub(crate) fn link(
+    instructions: u16,
+    forms: &[u8; Circuit::MOST_INSTRUCTIONS],
+    firsts: &[u8; Circuit::MOST_INSTRUCTIONS],
+    seconds: &[u8; Circuit::MOST_INSTRUCTIONS],
+    indices: &mut [u16; Circuit::MOST_WIRES],
+    after_firsts: &mut [u16; Circuit::MOST_INSTRUCTIONS],
+    after_seconds: &mut [u16; Circuit::MOST_INSTRUCTIONS],
+)
+    requires { ⌜ instructions ≤ mostInstructions ⌝ }
+    requires { ⌜ now indices ≡ replicate mostWires instructions ⌝ }
+    requires { ⌜ (length (now «after_firsts») ≡ mostInstructions) × (length (now «after_seconds») ≡ mostInstructions) ⌝ }
+    ensures { λ _. ⌜ length (now (indices .exit)) ≡ mostWires ⌝ }
+    ensures { λ _. ⌜ ((is : List Instruction) → Tabled is instructions (now (forms .entry)) (now (firsts .entry)) (now (seconds .entry)) → Linked is 0 (now (indices .exit)) (now («after_firsts» .exit)) (now («after_seconds» .exit))) ⌝ }
+{
+    let mut index = instructions;
+    while 0 < index {
+        index -= 1;
+        let touched = touched_at(forms, firsts, seconds, index);
+        link_one(index, touched, indices, after_firsts, after_seconds);
     }
 }

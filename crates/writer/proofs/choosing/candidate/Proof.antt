@@ -1,8 +1,4 @@
--- `writer::choosing::candidate` meets its contract: the head's instruction is the one at its place. Assumes nothing.
-use mathlib.Core.Path.{sym, ap, _∙_}
-use Rattle.circuits.specs.Stepping.{foundOf}
-use Rattle.writer.specs.Heads.{mayWrite}
-use Rattle.writer.proofs.Standing.{stands-faultless}
+-- `writer::choosing::candidate` meets its contract: what is kept of the head says its wires. Assumes nothing.
 use Rattle.writer.proofs.Candidates.{no-candidate, is-candidate}
 use borrow.Author.Needs.{needs}
 use Rattle.writer.proofs.choosing.candidate.Statement.{statement}
@@ -11,52 +7,22 @@ use Rattle.writer.proofs.choosing.candidate.Tie as tie
 of-wire-requires : tie.Need-of-wire-requires
 of-wire-requires c κs = search needs
 
-of-wire-requires-2 : tie.Need-of-wire-requires-2
-of-wire-requires-2 c κs = search needs
+cast-if1 : tie.Need-cast-if1
+cast-if1 c = search needs
 
-sub-step-at : tie.Need-sub-step-at
-sub-step-at c = search needs
+returns : tie.Need-returns
+returns c = λ is tab. no-candidate _ tab _ _ _ (c .before .before .of-wire .ensures) (c .if1 .taken)
 
-step-at-requires : tie.Need-step-at-requires
-step-at-requires c κs = search needs
-
-enum-told : tie.Need-enum-told
-enum-told c = search needs
-
-enum-told-2 : tie.Need-enum-told-2
-enum-told-2 c = search needs
-
-enum-known-instruction : tie.Need-enum-known-instruction
-enum-known-instruction c = search needs
-
-wires-of-requires : tie.Need-wires-of-requires
-wires-of-requires c κs = search needs
+touched-at-requires : tie.Need-touched-at-requires
+touched-at-requires c κs = search needs
 
 may-write-requires : tie.Need-may-write-requires
 may-write-requires c κs = search needs
 
-returns : tie.Need-returns
-returns c = no-candidate _ _ (c .before .before .before .before .before .before .args .places .now) _ _ _ (c .before .before .before .before .of-wire .ensures) (c .before .before .before .of-wire2 .ensures) (c .before .before .before .before .before .before .pre .1 .1) (sym (c .before .before .step-at .ensures) ∙ ap foundOf (c .enum-told .given .1))
-
 returns-2 : tie.Need-returns-2
-returns-2 c = absurd (stands-faultless _ _ _ (c .before .before .before .before .before .before .pre .1 .1) (rw (c .before .before .before .before .of-wire .ensures, c .before .before .before .of-wire2 .ensures) at (sym (c .before .before .step-at .ensures) ∙ ap foundOf (c .enum-told2 .given .1))))
-
-returns-3 : tie.Need-returns-3
-returns-3 c = is-candidate _ _ (c .before .before .before .before .before .before .before .before .before .args .places .now) _ _ _ (c .before .before .before .before .before .before .before .of-wire .ensures) (c .before .before .before .before .before .before .of-wire2 .ensures) (c .before .before .before .before .before .before .before .before .before .pre .1 .1) (sym (c .before .before .before .before .before .step-at .ensures) ∙ ap foundOf (c .before .before .before .instruction .given .1)) (c .may-write .ensures ∙ ap (λ t. mayWrite (c .before .before .before .before .before .before .before .before .before .args .lenders .lenders) (c .before .before .before .before .before .before .before .before .before .args .indices .now) (c .before .before .before .before .before .before .before .before .before .args .valid) (c .before .before .before .before .before .before .before .of-wire .result) t) (c .before .wires-of .ensures))
+returns-2 c = λ is tab. is-candidate _ tab _ _ _ (c .before .before .before .before .of-wire .ensures) (c .before .before .if1 .left) (c .before .touched-at .ensures) (c .may-write .ensures)
 
 pub candidate-spec : {M : Type 1} → statement M
 candidate-spec =
     tie.close
-    (tie.spec
-    of-wire-requires
-    of-wire-requires-2
-    sub-step-at
-    step-at-requires
-    enum-told
-    enum-told-2
-    enum-known-instruction
-    wires-of-requires
-    may-write-requires
-    returns
-    returns-2
-    returns-3)
+    (tie.spec of-wire-requires cast-if1 returns touched-at-requires may-write-requires returns-2)

@@ -2,27 +2,33 @@
 use Prim.Native.Nat.{_-_, _≤_}
 use mathlib.Core.Path.{_≡_, sym, _∙_}
 use mathlib.Core.Logic.{⊎-elim}
+use mathlib.Core.List.{List}
 use native.Mathlib.Omega.{arith}
-use borrow.Author.Needs.{needs}
-use Rattle.writer.specs.Heads.{stepsIn, candidate, Chosen}
+use Rattle.records.specs.declared.instructions.Instruction.{Instruction}
+use Rattle.writer.specs.Heads.{Tabled, candidate, Chosen}
 use Rattle.writer.proofs.Candidates.{chosen-start, chosen-take, chosen-not, chosen-skip}
+use borrow.Author.Needs.{needs}
 use Rattle.writer.proofs.choosing.choose.Statement.{statement}
 use Rattle.writer.proofs.choosing.choose.Tie as tie
 
 abbrev Inv-loop : tie.InvT-loop
-Inv-loop circuit lenders valid indices places best₀ lowest₀ x₀ best lowest x = (x ≤ valid .width) × Chosen valid (candidate (lenders .lenders) indices valid (stepsIn circuit)) indices x best lowest
+Inv-loop lenders valid indices forms firsts seconds best₀ lowest₀ x₀ best lowest x = (x ≤ valid .width)
+    × ((is : List Instruction) → Tabled is (valid .instructions) forms firsts seconds → Chosen valid (candidate (lenders .lenders) indices valid is) indices x best lowest)
 
 abbrev μ-loop : tie.MeasureT-loop
-μ-loop circuit lenders valid indices places best₀ lowest₀ x₀ best lowest x = valid .width - x
+μ-loop lenders valid indices forms firsts seconds best₀ lowest₀ x₀ best lowest x = valid .width - x
 
 loop-holds : tie.Need-loop-holds Inv-loop μ-loop
-loop-holds c = (search needs, chosen-start _ _ _)
+loop-holds c = (search needs, λ is tab. chosen-start _ _ _)
 
 of-wire-requires : tie.Need-of-wire-requires Inv-loop μ-loop
-of-wire-requires c κs = c .before .before .before .before .pre .sized-indices
+of-wire-requires c κs = c .before .before .before .pre .0
+
+cast-index : tie.Need-cast-index Inv-loop μ-loop
+cast-index c = search needs
 
 candidate-requires : tie.Need-candidate-requires Inv-loop μ-loop
-candidate-requires c κs = (c .before .before .before .before .before .before .pre .sized-indices, (c .before .before .before .before .before .before .pre .sized-places, c .before .before .before .before .before .before .pre .heads _ (search needs)))
+candidate-requires c κs = c .before .before .before .before .before .pre
 
 add-x : tie.Need-add-x Inv-loop μ-loop
 add-x c = search needs
@@ -33,14 +39,15 @@ loop-less c = search needs
 loop-again : tie.Need-loop-again Inv-loop μ-loop
 loop-again c = let l = c .before .before .before .before .loop in
     ⊎-elim
-    (λ w. (omega arith, rw (w .3, w .4) (chosen-take (l .inv .1) (omega arith) (c .before .of-wire .ensures) (w .0 .taken) (sym (w .1 .ensures) ∙ w .2 .taken))))
+    (λ w. (omega arith, λ is tab. rw (w .3, w .4) (chosen-take (l .inv .1 is tab) (omega arith) (c .before .of-wire .ensures) (w .0 .taken) (sym (w .1 .ensures is tab) ∙ w .2 .taken))))
     (⊎-elim
-    (λ w. (omega arith, rw (w .3, w .4) (chosen-not (l .inv .1) (sym (w .1 .ensures) ∙ w .2 .left))))
-    (λ w. (omega arith, rw (w .1, w .2) (chosen-skip (l .inv .1) (c .before .of-wire .ensures) (w .0 .left)))))
+    (λ w. (omega arith, λ is tab. rw (w .3, w .4) (chosen-not (l .inv .1 is tab) (sym (w .1 .ensures is tab) ∙ w .2 .left))))
+    (λ w. (omega arith, λ is tab. rw (w .1, w .2) (chosen-skip (l .inv .1 is tab) (c .before .of-wire .ensures) (w .0 .left)))))
     (c .if2 .came)
 
 returns : tie.Need-returns Inv-loop μ-loop
-returns c = let e : c .before .before .loop .x ≡ c .before .before .before .before .args .valid .width = omega arith in (c .before .before .loop .lowest, rw e at (c .before .before .loop .inv .1))
+returns c = let e : c .before .before .loop .x ≡ c .before .before .before .args .valid .width = omega arith in
+    λ is tab. (c .before .before .loop .lowest, rw e at (c .before .before .loop .inv .1 is tab))
 
 pub choose-spec : {M : Type 1} → statement M
 choose-spec =
@@ -50,6 +57,7 @@ choose-spec =
     μ-loop
     loop-holds
     of-wire-requires
+    cast-index
     candidate-requires
     add-x
     loop-less

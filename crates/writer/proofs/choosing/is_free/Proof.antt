@@ -14,6 +14,9 @@ lender-of-requires c κs = search needs
 of-wire-requires : tie.Need-of-wire-requires
 of-wire-requires c κs = search needs
 
+cast-result : tie.Need-cast-result
+cast-result c = search needs
+
 returns : tie.Need-returns
 unfolding isFree
 returns c = rw (sym (c .before .before .before .before .takes .ensures) ∙ c .before .before .before .if1 .taken, c .before .of-wire .ensures, c .before .before .lender-of .ensures)
@@ -24,4 +27,5 @@ returns-2 c = rw (sym (c .before .takes .ensures) ∙ c .if1 .left)
 
 pub is-free-spec : {M : Type 1} → statement M
 is-free-spec =
-    tie.close (tie.spec takes-requires lender-of-requires of-wire-requires returns returns-2)
+    tie.close
+    (tie.spec takes-requires lender-of-requires of-wire-requires cast-result returns returns-2)
