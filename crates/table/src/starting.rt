@@ -20,7 +20,7 @@ ghost use Rattle.basics.specs.Outcome.{beside};
 ghost use Rattle.bits.specs.Bits.{bit, pack};
 ghost use Rattle.circuits.specs.Limits.{mostInstructions, headerLength};
 ghost use Rattle.circuits.specs.Stepping.{Steps};
-ghost use Rattle.circuits.specs.Reading.{readCircuit};
+ghost use Rattle.circuits.specs.Reading.{readCircuit, readingOf, summary};
 ghost use Rattle.circuits.specs.Rewriting.{stepsOf};
 ghost use Rattle.table.specs.Limits.{mostWires};
 ghost use Rattle.table.specs.Marks.{emptyTable};
@@ -155,20 +155,22 @@ fn table_from(width: u8, sets: Sets) -> Table
     }
 }
 
-// The table of a circuit, or the reader's refusal with the table of no wires beside it.
+// The table of a circuit, or the reader's refusal with the table of no wires beside it; and what the reader told.
 pub fn start(circuit: &[u8]) -> Started
-    ensures { λ r. ⌜ (startedOf r ≡ started (now (circuit .entry))) × (r .table ≡ beside emptyTable (started (now (circuit .entry)))) ⌝ }
+    ensures { λ r. ⌜ (startedOf r ≡ started (now (circuit .entry))) × (r .table ≡ beside emptyTable (started (now (circuit .entry)))) × (readingOf (r .reading) ≡ summary (readCircuit (now (circuit .entry)))) ⌝ }
 {
     match read(circuit) {
         Reading::Refused(r) => Started {
             answer: Start::Refused(r),
             table: Table::empty(),
+            reading: Reading::Refused(r),
         },
         Reading::Valid(valid) => {
             let table = table_from(valid.width, all_sets(circuit));
             Started {
                 answer: Start::Done,
                 table,
+                reading: Reading::Valid(valid),
             }
         }
     }

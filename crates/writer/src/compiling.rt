@@ -4,7 +4,6 @@ use crate::chaining::qubits_for;
 use crate::dynamic::write_dynamic;
 use circuits::Circuit;
 use circuits::Reading;
-use circuits::read;
 use pairs::Lenders;
 use pairs::Pairs;
 use pairs::read_pairs;
@@ -61,10 +60,12 @@ fn write_in_room(
 pub fn compile(circuit: &[u8], list: &[u8], out: &mut [u8]) -> Compiling
     ensures { λ r. ⌜ Compiled (now (out .entry)) (compiled (now (circuit .entry)) (now (list .entry)) (length (now (out .entry)))) (compilingOf r) (now (out .exit)) ⌝ }
 {
-    match read(circuit) {
+    let started = table::start(circuit);
+    let reading = started.reading;
+    match reading {
         Reading::Refused(r) => Compiling::Refused(r),
         Reading::Valid(valid) => {
-            let paired = read_pairs(table::start(circuit).table, list);
+            let paired = read_pairs(started.table, list);
             let answer = paired.answer;
             match answer {
                 Pairs::Refused(r) => Compiling::Refused(r),

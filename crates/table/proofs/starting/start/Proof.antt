@@ -30,14 +30,15 @@ table-from-requires c κs = search needs
 
 returns : tie.Need-returns
 returns c =
-    let e = ap tableAtStart (turned-away _ (sym (ap readingOf (c .before .before .r .given .1)) ∙ c .before .before .before .before .read .ensures)) in
-    (sym e, c .empty .ensures ∙ ap (beside emptyTable) (sym e))
+    let known = sym (ap readingOf (c .before .before .r .given .1)) ∙ c .before .before .before .before .read .ensures in
+    let e = ap tableAtStart (turned-away _ known) in
+    (sym e, c .empty .ensures ∙ ap (beside emptyTable) (sym e), known)
 
 returns-2 : tie.Need-returns-2
 returns-2 c =
-    let a = accepted _ (sym (ap readingOf (c .before .before .before .valid .given .1)) ∙ c .before .before .before .before .before .read .ensures) in
-    let e = start-told _ a (c .before .all-sets .ensures) (c .table-from .ensures) in
-    (sym e, ap (beside emptyTable) (sym e))
+    let known = sym (ap readingOf (c .before .before .before .valid .given .1)) ∙ c .before .before .before .before .before .read .ensures in
+    let e = start-told _ (accepted _ known) (c .before .all-sets .ensures) (c .table-from .ensures) in
+    (sym e, ap (beside emptyTable) (sym e), known)
 
 pub start-spec : {M : Type 1} → statement M
 start-spec =

@@ -1,24 +1,21 @@
 -- `writer::compiling::compile` meets its contract: the reader's refusal, the first refused pair's, or what is written in the room.
 -- Assumes nothing.
 use mathlib.Core.Path.{sym, ap, _∙_}
-use borrow.Author.Needs.{needs}
 use Rattle.circuits.specs.Reading.{readingOf}
 use Rattle.circuits.proofs.Rewrites.{accepted, turned-away}
 use Rattle.writer.proofs.Compiles.{compiled-refused, compiled-to, circuit-refused, told-refused, told-length, told-accepted}
+use borrow.Author.Needs.{needs}
 use Rattle.writer.proofs.compiling.compile.Statement.{statement}
 use Rattle.writer.proofs.compiling.compile.Tie as tie
 
-read-requires : tie.Need-read-requires
-read-requires c κs = search needs
-
-enum-known-r : tie.Need-enum-known-r
-enum-known-r c = search needs
-
-enum-known-valid : tie.Need-enum-known-valid
-enum-known-valid c = search needs
-
 start-requires : tie.Need-start-requires
 start-requires c κs = search needs
+
+enum-known-reading : tie.Need-enum-known-reading
+enum-known-reading c = search needs
+
+enum-known-reading-2 : tie.Need-enum-known-reading-2
+enum-known-reading-2 c = search needs
 
 read-pairs-requires : tie.Need-read-pairs-requires
 read-pairs-requires c κs = search needs
@@ -31,35 +28,34 @@ enum-known-answer-2 c = search needs
 
 write-in-room-requires : tie.Need-write-in-room-requires
 write-in-room-requires c κs =
-    let known = sym (ap readingOf (c .before .before .before .before .before .before .before .valid .given .1)) ∙ c .before .before .before .before .before .before .before .before .before .read .ensures in
-    (known, told-length _ (c .before .before .before .before .before .before .before .before .before .before .before .before .before .args .list .now) (accepted _ known) (c .before .before .before .before .before .start .ensures .1) (c .before .before .before .before .read-pairs .ensures) (c .before .before .answer2 .given .1))
+    let known = sym (ap readingOf (c .before .before .before .before .before .before .reading2 .given .1)) ∙ c .before .before .before .before .before .before .before .before .start .ensures .2 in
+    (known, told-length _ (c .before .before .before .before .before .before .before .before .before .before .before .before .args .list .now) (accepted _ known) (c .before .before .before .before .before .before .before .before .start .ensures .1) (c .before .before .before .before .read-pairs .ensures) (c .before .before .answer2 .given .1))
 
 returns : tie.Need-returns
-returns c = compiled-refused (circuit-refused _ _ _ (turned-away _ (sym (ap readingOf (c .before .r .given .1)) ∙ c .before .before .before .read .ensures)))
+returns c = compiled-refused (circuit-refused _ _ _ (turned-away _ (sym (ap readingOf (c .before .reading .given .1)) ∙ c .before .before .before .start .ensures .2)))
 
 returns-2 : tie.Need-returns-2
 returns-2 c =
-    let a = accepted _ (sym (ap readingOf (c .before .before .before .before .before .before .valid .given .1)) ∙ c .before .before .before .before .before .before .before .before .read .ensures) in
-    compiled-refused (told-refused _ _ a (c .before .before .before .before .start .ensures .1) (c .before .before .before .read-pairs .ensures) (c .before .answer .given .1) _)
+    let a = accepted _ (sym (ap readingOf (c .before .before .before .before .before .reading2 .given .1)) ∙ c .before .before .before .before .before .before .before .start .ensures .2) in
+    compiled-refused (told-refused _ _ a (c .before .before .before .before .before .before .before .start .ensures .1) (c .before .before .before .read-pairs .ensures) (c .before .answer .given .1) _)
 
 same-length : tie.Need-same-length
 same-length c = search needs
 
 returns-3 : tie.Need-returns-3
 returns-3 c =
-    let a = accepted _ (sym (ap readingOf (c .before .before .before .before .before .before .before .before .before .before .valid .given .1)) ∙ c .before .before .before .before .before .before .before .before .before .before .before .before .read .ensures) in
+    let a = accepted _ (sym (ap readingOf (c .before .before .before .before .before .before .before .before .before .reading2 .given .1)) ∙ c .before .before .before .before .before .before .before .before .before .before .before .start .ensures .2) in
     compiled-to
-    (told-accepted _ _ a (c .before .before .before .before .before .before .before .before .start .ensures .1) (c .before .before .before .before .before .before .before .read-pairs .ensures) (c .before .before .before .before .before .answer2 .given .1) _)
+    (told-accepted _ _ a (c .before .before .before .before .before .before .before .before .before .before .before .start .ensures .1) (c .before .before .before .before .before .before .before .read-pairs .ensures) (c .before .before .before .before .before .answer2 .given .1) _)
     (c .before .before .write-in-room .ensures)
 
 pub compile-spec : {M : Type 1} → statement M
 compile-spec =
     tie.close
     (tie.spec
-    read-requires
-    enum-known-r
-    enum-known-valid
     start-requires
+    enum-known-reading
+    enum-known-reading-2
     read-pairs-requires
     enum-known-answer
     enum-known-answer-2
