@@ -12,7 +12,7 @@ use crate::numbers::Line;
 use crate::numbers::Wire;
 ghost use mathlib.Core.Path.{_≡_};
 ghost use Prim.Native.Nat.{_+_, _≤_};
-ghost use lib.ListN.{getD};
+ghost use lib.ListN.{getD, length};
 ghost use Rattle.records.specs.Records.{angleAt, decodeAt, recordAt, answered};
 
 // A byte of a record by its distance from the record's place; 0 past the end.
@@ -28,7 +28,26 @@ fn byte_at(s: &[u8], at: usize, distance: usize) -> u8
     s[at + distance]
 }
 
-fn angle_at(s: &[u8], at: usize, distance: usize) -> Angle
+// An angle that lies inside the bytes.
+fn angle_inside(s: &[u8], at: usize, distance: usize) -> Angle
+    requires { ⌜ at + distance + 8 ≤ length (now s) ⌝ }
+    ensures { λ r. ⌜ r ≡ angleAt (now (s .entry)) at distance ⌝ }
+{
+    let from = at + distance;
+    Angle(
+        s[from],
+        s[from + 1],
+        s[from + 2],
+        s[from + 3],
+        s[from + 4],
+        s[from + 5],
+        s[from + 6],
+        s[from + 7],
+    )
+}
+
+// An angle anywhere; bytes past the end count as 0.
+fn angle_padded(s: &[u8], at: usize, distance: usize) -> Angle
     requires { ⌜ distance ≤ 3 ⌝ }
     ensures { λ r. ⌜ r ≡ angleAt (now (s .entry)) at distance ⌝ }
 {
@@ -42,6 +61,19 @@ fn angle_at(s: &[u8], at: usize, distance: usize) -> Angle
         byte_at(s, at, distance + 6),
         byte_at(s, at, distance + 7),
     )
+}
+
+// An angle: nearly always it lies inside, and then each byte is read without a test.
+fn angle_at(s: &[u8], at: usize, distance: usize) -> Angle
+    requires { ⌜ distance ≤ 3 ⌝ }
+    ensures { λ r. ⌜ r ≡ angleAt (now (s .entry)) at distance ⌝ }
+{
+    if at < s.len() {
+        if distance + 8 <= s.len() - at {
+            return angle_inside(s, at, distance);
+        }
+    }
+    angle_padded(s, at, distance)
 }
 
 // The record of a known form at a place; bytes past the end count as 0.

@@ -1,7 +1,7 @@
--- `records::reading::angle_at` meets its contract: the eight bytes one after the other. Assumes nothing.
+-- `records::reading::angle_padded` meets its contract: the eight bytes one after the other. Assumes nothing.
 use borrow.Author.Needs.{needs}
-use Rattle.records.proofs.reading.angle_at.Statement.{statement}
-use Rattle.records.proofs.reading.angle_at.Tie as tie
+use Rattle.records.proofs.reading.angle_padded.Statement.{statement}
+use Rattle.records.proofs.reading.angle_padded.Tie as tie
 
 byte-at-requires : tie.Need-byte-at-requires
 byte-at-requires c κs = search needs
@@ -60,8 +60,8 @@ returns c = rw (
   c .byte-at8 .ensures,
 )
 
-pub angle-at-spec : {M : Type 1} → statement M
-angle-at-spec =
+pub angle-padded-spec : {M : Type 1} → statement M
+angle-padded-spec =
     tie.close
     (tie.spec
     byte-at-requires
