@@ -8,7 +8,7 @@ use Rattle.writing.specs.Writing.{Wrote, Placed}
 use Rattle.writing.proofs.Puts.{placed-wrote, placed-length, wrote-on}
 use Rattle.records.specs.Bytes.{recordBytes}
 use Rattle.records.specs.declared.instructions.Record.the-variants.{DynamicWidth}
-use Rattle.circuits.specs.Limits.{mostInstructions, headerLength}
+use Rattle.circuits.specs.Limits.{mostWires, mostInstructions, headerLength}
 use Rattle.circuits.specs.Reading.{readCircuit}
 use Rattle.circuits.specs.Validity.{stepsBytes}
 use Rattle.circuits.specs.declared.circuit.Circuit.{Circuit}
@@ -22,6 +22,9 @@ module _ (s : List ℕ) (told : Circuit) (a : Accepted s told) where
   -- the first instruction stands behind the header
   pub first-stands : Stands s 0 headerLength
   first-stands = record { inside = omega arith; few = omega arith; steps = steps-stand s a }
+
+  pub few-wires : told .width ≤ mostWires
+  few-wires = omega (arith, a .width, read-valid s (a .is) .narrow)
 
   pub few-instructions : told .instructions ≤ mostInstructions
   few-instructions = omega (arith, a .instructions, read-valid s (a .is) .few)

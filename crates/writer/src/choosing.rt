@@ -1,5 +1,6 @@
 // What comes next: of the heads that may be written, the one earliest in the input.
 use crate::noting::touched_at;
+use crate::noting::wide;
 use crate::seeking::Touched;
 use circuits::Circuit;
 use pairs::Lenders;
@@ -34,8 +35,9 @@ fn is_free(
     requires { ⌜ length (now indices) ≡ mostWires ⌝ }
     ensures { λ r. ⌜ r ≡ isFree (lenders .lenders) (now (indices .entry)) valid (wire .0) ⌝ }
 {
-    if lenders.takes(valid.width, wire) {
-        return of_wire(indices, lenders.lender_of(wire)) as usize == valid.instructions;
+    let lender = lenders.lender_of(wire);
+    if lender.0 < valid.width {
+        return of_wire(indices, lender) as usize == valid.instructions;
     }
     true
 }
@@ -105,6 +107,7 @@ pub(crate) fn choose(
     seconds: &[u8; Circuit::MOST_INSTRUCTIONS],
 ) -> u8
     requires { ⌜ length (now indices) ≡ mostWires ⌝ }
+    requires { ⌜ valid .width ≤ mostWires ⌝ }
     requires { ⌜ valid .instructions ≤ mostInstructions ⌝ }
     ensures { λ r. ⌜ ((is : List Instruction) → Tabled is (valid .instructions) (now (forms .entry)) (now (firsts .entry)) (now (seconds .entry)) → Chooses valid (candidate (lenders .lenders) (now (indices .entry)) valid is) (now (indices .entry)) r) ⌝ }
 {
@@ -112,7 +115,7 @@ pub(crate) fn choose(
     let mut lowest = valid.instructions;
     let mut x: u8 = 0;
     while x < valid.width {
-        let index = of_wire(indices, Wire(x)) as usize;
+        let index = wide(indices[x as usize]);
         if index < lowest {
             if candidate(lenders, valid, indices, forms, firsts, seconds, Wire(x)) {
                 best = x;

@@ -64,7 +64,7 @@ pub(crate) fn touched_at(
     Touched::Two(first, Wire(seconds[index as usize]))
 }
 
-fn wide(number: u16) -> usize
+pub(crate) fn wide(number: u16) -> usize
     ensures { λ r. ⌜ r ≡ number ⌝ }
 {
     number as usize

@@ -21,14 +21,20 @@ abbrev μ-loop : tie.MeasureT-loop
 loop-holds : tie.Need-loop-holds Inv-loop μ-loop
 loop-holds c = (search needs, λ is tab. chosen-start _ _ _)
 
-of-wire-requires : tie.Need-of-wire-requires Inv-loop μ-loop
-of-wire-requires c κs = c .before .before .before .pre .0
+cast-wide : tie.Need-cast-wide Inv-loop μ-loop
+cast-wide c = search needs
 
-cast-index : tie.Need-cast-index Inv-loop μ-loop
-cast-index c = search needs
+mul-wide : tie.Need-mul-wide Inv-loop μ-loop
+mul-wide c = omega (arith, c .before .before .before .pre .1 .0)
+
+element-copy-out-wide : tie.Need-element-copy-out-wide Inv-loop μ-loop
+element-copy-out-wide c = omega (arith, c .before .before .before .pre .1 .0)
+
+wide-requires : tie.Need-wide-requires Inv-loop μ-loop
+wide-requires c κs = search needs
 
 candidate-requires : tie.Need-candidate-requires Inv-loop μ-loop
-candidate-requires c κs = c .before .before .before .before .before .pre
+candidate-requires c κs = (c .before .before .before .before .before .before .pre .0, c .before .before .before .before .before .before .pre .1 .1)
 
 add-x : tie.Need-add-x Inv-loop μ-loop
 add-x c = search needs
@@ -37,12 +43,12 @@ loop-less : tie.Need-loop-less Inv-loop μ-loop
 loop-less c = search needs
 
 loop-again : tie.Need-loop-again Inv-loop μ-loop
-loop-again c = let l = c .before .before .before .before .loop in
+loop-again c = let l = c .before .before .before .before .before .loop in
     ⊎-elim
-    (λ w. (omega arith, λ is tab. rw (w .3, w .4) (chosen-take (l .inv .1 is tab) (omega arith) (c .before .of-wire .ensures) (w .0 .taken) (sym (w .1 .ensures is tab) ∙ w .2 .taken))))
+    (λ w. (omega arith, λ is tab. rw (w .3, w .4) (chosen-take (l .inv .1 is tab) (omega arith) (c .before .wide .ensures) (w .0 .taken) (sym (w .1 .ensures is tab) ∙ w .2 .taken))))
     (⊎-elim
     (λ w. (omega arith, λ is tab. rw (w .3, w .4) (chosen-not (l .inv .1 is tab) (sym (w .1 .ensures is tab) ∙ w .2 .left))))
-    (λ w. (omega arith, λ is tab. rw (w .1, w .2) (chosen-skip (l .inv .1 is tab) (c .before .of-wire .ensures) (w .0 .left)))))
+    (λ w. (omega arith, λ is tab. rw (w .1, w .2) (chosen-skip (l .inv .1 is tab) (c .before .wide .ensures) (w .0 .left)))))
     (c .if2 .came)
 
 returns : tie.Need-returns Inv-loop μ-loop
@@ -56,8 +62,10 @@ choose-spec =
     Inv-loop
     μ-loop
     loop-holds
-    of-wire-requires
-    cast-index
+    cast-wide
+    mul-wide
+    element-copy-out-wide
+    wide-requires
     candidate-requires
     add-x
     loop-less

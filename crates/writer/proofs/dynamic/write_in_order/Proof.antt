@@ -9,7 +9,7 @@ use Rattle.circuits.proofs.Rewrites.{Accepted, accepted}
 use Rattle.writer.specs.Outputs.{dynamicIn}
 use Rattle.writer.proofs.Standing.{stands-faultless}
 use Rattle.writer.proofs.Turns.{Going, going-start, going-end, going-stuck, going-on, chosen-below, chosen-stands, not-over}
-use Rattle.writer.proofs.Written.{few-instructions}
+use Rattle.writer.proofs.Written.{few-wires, few-instructions}
 use borrow.Author.Needs.{needs}
 use Rattle.writer.proofs.dynamic.write_in_order.Statement.{statement}
 use Rattle.writer.proofs.dynamic.write_in_order.Tie as tie
@@ -29,7 +29,7 @@ loop-holds c = let a = accepted _ (c .before .before .before .pre .0) in
     (a, going-start _ _ a _ (c .before .before .before .pre .1 .0) (ap (λ o. stepsBytes (dynamicIn (c .before .before .before .args .lenders .lenders) o)) (a .is)) (c .before .before .before .pre .1 .1 .1 .1) (c .before .before .before .pre .1 .1 .0) (c .before .before .before .pre .1 .1 .1 .0))
 
 choose-requires : tie.Need-choose-requires Inv-loop μ-loop
-choose-requires c κs = ((c .before .before .loop .inv .1 .sized), few-instructions _ _ (c .before .before .loop .inv .0))
+choose-requires c κs = let l = c .before .before .loop in (l .inv .1 .sized, (few-wires _ _ (l .inv .0), few-instructions _ _ (l .inv .0)))
 
 same-length : tie.Need-same-length Inv-loop μ-loop
 same-length c = c .before .before .before .before .before .before .loop .inv .1 .rest .same
