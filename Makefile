@@ -2,8 +2,9 @@
 
 .PHONY: run test bench tools
 
-# The program that `make run` shows.
-PROGRAM := cases
+# The sample that `make run` compiles, and the programs that show it.
+SAMPLE := examples/p1.circuit
+PROGRAMS := show list compile
 
 # What both commands need. A missing tool is named in one line, before anything is done.
 FROM_rt := it comes with the Rattle kit
@@ -13,9 +14,15 @@ $(foreach tool,rt cargo,$(if $(shell command -v $(tool) 2>/dev/null),,\
 
 run:
 	@mkdir -p target
-	@echo "Proving $(PROGRAM) and what it rests on (minutes the first time) ..." >&2
-	@rt check $(PROGRAM) >target/run.log 2>&1 || { cat target/run.log; exit 1; }
-	@target/bin/$(PROGRAM)
+	@echo "Proving $(PROGRAMS) and what they rest on (minutes the first time) ..." >&2
+	@rt check $(PROGRAMS) >target/run.log 2>&1 || { cat target/run.log; exit 1; }
+	@echo "$(SAMPLE):"
+	@target/bin/show <$(SAMPLE)
+	@echo "What greedy chooses:"
+	@target/bin/list <$(SAMPLE)
+	@echo "Compiled:"
+	@target/bin/compile $(SAMPLE) target/run.compiled
+	@target/bin/show <target/run.compiled
 
 test:
 	@tests/run
