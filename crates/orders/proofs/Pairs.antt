@@ -13,12 +13,13 @@ use Rattle.orders.specs.Indices.{In, Before, any}
 use Rattle.orders.specs.Runs.{Circuit, Lawful, Pair, Run, BetweenWires, Allowed, takersOf}
 use Rattle.orders.proofs.Indices.{first-or-none, before-trans, before-left, any-in, any-which, once-below}
 
-taker-lender : (t : ℕ) (ps : List Pair) → In t (takersOf ps) → (l : ℕ) × In (l, t) ps
-taker-lender t [] h = absurd h
-taker-lender t (p ∷ ps) (inl e) = (p .0, inl (ap (λ z. (p .0, z)) e))
-taker-lender t (p ∷ ps) (inr h) = let r = taker-lender t ps h in (r .0, inr (r .1))
+-- a taker has a lender
+pub taker-in : (ps : List Pair) (t : ℕ) → In t (takersOf ps) → (l : ℕ) × In (l, t) ps
+taker-in [] t h = absurd h
+taker-in (p ∷ ps) t (inl e) = (p .0, inl (ap (λ z. (p .0, z)) e))
+taker-in (p ∷ ps) t (inr h) = let r = taker-in ps t h in (r .0, inr (r .1))
 
-takers-length : (ps : List Pair) → length (takersOf ps) ≡ length ps
+pub takers-length : (ps : List Pair) → length (takersOf ps) ≡ length ps
 takers-length [] = refl
 takers-length (p ∷ ps) = ap suc (takers-length ps)
 
@@ -43,7 +44,7 @@ module _ (C : Circuit) (law : Lawful C) where
           x,
           w,
           λ h.
-              let g = taker-lender x (p ∷ ps) h in
+              let g = taker-in (p ∷ ps) x h in
               let a = r .honours (g .0) x (g .1) in
               let b = before-trans (C .measOf (g .0)) (C .resetOf x) (C .measOf x) σ (r .order .once) a (r .keeps _ _ (law .spans x w)) in
               not-both (lenderAt (p ∷ ps) (C .measOf (g .0))) (lender-at (p ∷ ps) (g .0, x) (g .1))
@@ -60,6 +61,6 @@ module _ (C : Circuit) (law : Lawful C) where
       let x = head-lender p ps (a .between) (a .runs .0) (a .runs .1) in
       let b = once-below (C .width) (x .0 ∷ takersOf (p ∷ ps)) (x .2, a .take-once) (λ i h. elim h [
         | inl e ↦ subst (λ z. z < C .width) (sym e) (law .low (x .0) (x .1))
-        | inr k ↦ (let g = taker-lender i (p ∷ ps) k in law .low i (a .between (g .0) i (g .1) .1))
+        | inr k ↦ (let g = taker-in (p ∷ ps) i k in law .low i (a .between (g .0) i (g .1) .1))
       ]) in
       omega (arith, takers-length (p ∷ ps))

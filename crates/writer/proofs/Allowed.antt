@@ -1,7 +1,7 @@
 -- A list of pairs and the lenders that say the same pairs: the order of writing is the list's, and where the list is allowed each chain has a
 -- first wire, qubits are wires less pairs, and on each qubit the stretches follow one another. Assumes nothing.
 use Prim.Native.Nat.{ℕ, zero, suc, _+_, _<_}
-use mathlib.Core.Path.{_≡_, refl, sym, ap, subst, _∙_}
+use mathlib.Core.Path.{_≡_, sym, ap, subst, _∙_}
 use mathlib.Core.Logic.{_⊎_, inl, inr, _≢_}
 use mathlib.Core.Bool.{true, false}
 use mathlib.Core.List.{List, [], _∷_}
@@ -13,6 +13,7 @@ use Rattle.orders.specs.Indices.{In, Once}
 use Rattle.orders.specs.Runs.{Pair, Runs, Allowed, SamePairs, lendersOf, takersOf}
 use Rattle.orders.specs.Schedule.{schedule}
 use Rattle.orders.proofs.Indices.{once-fits}
+use Rattle.orders.proofs.Pairs.{taker-in, takers-length}
 use Rattle.orders.proofs.Runs.{runs-same}
 use Rattle.orders.proofs.Schedule.{schedule-same}
 use Rattle.circuits.specs.Reading.{Static, readCircuit}
@@ -38,15 +39,6 @@ pub in-takers : (ps : List Pair) (l t : ℕ) → In (l, t) ps → In t (takersOf
 in-takers [] l t h = absurd h
 in-takers (p ∷ ps) l t (inl e) = inl (ap (λ (q : Pair). q .1) e)
 in-takers (p ∷ ps) l t (inr h) = inr (in-takers ps l t h)
-
-pub taker-in : (ps : List Pair) (t : ℕ) → In t (takersOf ps) → (l : ℕ) × In (l, t) ps
-taker-in [] t h = absurd h
-taker-in (p ∷ ps) t (inl e) = (p .0, inl (ap (λ z. (p .0, z)) e))
-taker-in (p ∷ ps) t (inr h) = let r = taker-in ps t h in (r .0, inr (r .1))
-
-takers-length : (ps : List Pair) → length (takersOf ps) ≡ length ps
-takers-length [] = refl
-takers-length (p ∷ ps) = ap suc (takers-length ps)
 
 -- a lender that lends once has one taker
 one-taker : (ps : List Pair) → Once (lendersOf ps) → (l t u : ℕ) → In (l, t) ps → In (l, u) ps → t ≡ u

@@ -13,10 +13,11 @@ use Rattle.basics.proofs.Tests.{same-or-other}
 use Rattle.orders.specs.Indices.{In, Once}
 use Rattle.orders.specs.Runs.{Pair, SamePairs, takersOf}
 use Rattle.orders.proofs.Indices.{in-or-out}
+use Rattle.orders.proofs.Pairs.{taker-in}
 use Rattle.circuits.specs.Limits.{mostWires}
 use Rattle.pairs.specs.Lending.{nobody, lenderOf, lendersIn, takes, pairsOf}
 use Rattle.writer.proofs.Pairs.{pair-in, pair-says}
-use Rattle.writer.proofs.Allowed.{in-takers, taker-in}
+use Rattle.writer.proofs.Allowed.{in-takers}
 
 -- the takers are wires
 abbrev pub TakersLow : List Pair → Type 0
