@@ -18,6 +18,10 @@ module _ (t : Table) where
   unfolding greedyOf
   greedy-made e = rw e
 
+  pub greedy-refused : wrongWidth t ≡ true → greedyOf t ≡ refused 27 0
+  unfolding greedyOf
+  greedy-refused e = rw e
+
   -- marks are counted where the width is right, and the count is refused as greedy is
   pub counted-right : (n : ℕ) → countOf t ≡ done n → wrongWidth t ≡ false
   unfolding countOf
