@@ -4,6 +4,7 @@ pub mod TableMarks
 pub mod Judgements
 pub mod Numbers
 pub mod Updates
+pub mod RowsBelow
 pub mod Offers
 pub mod SavedTables
 pub mod HandMade

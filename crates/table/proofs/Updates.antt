@@ -19,7 +19,7 @@ use Rattle.table.specs.declared.tables.Table.{Table}
 
 -- ---- a mark of a wire at or above the width does not count
 
-lender-far : (t : Table) (u v : ℕ) → ltb u (t .width) ≡ false → counts t u v ≡ false
+pub lender-far : (t : Table) (u v : ℕ) → ltb u (t .width) ≡ false → counts t u v ≡ false
 unfolding counts
 lender-far t u v e = rw e
 
@@ -27,7 +27,7 @@ taker-far : (t : Table) (u v : ℕ) → ltb v (t .width) ≡ false → counts t 
 unfolding counts
 taker-far t u v e = rw (e, and-false (bit v (getD (t .rows) u 0)), and-false (not (eqb v u)), and-false (ltb u (t .width) && not (bit u (t .lending))))
 
-stays-no : (t : Table) (lender taker u v : ℕ) → counts t u v ≡ false → markAfter (counts t) lender taker u v ≡ false
+pub stays-no : (t : Table) (lender taker u v : ℕ) → counts t u v ≡ false → markAfter (counts t) lender taker u v ≡ false
 stays-no t lender taker u v e = rw (e, and-false (not (eqb v taker)), and-false (not (eqb u lender)))
 
 -- ---- the marks

@@ -2,9 +2,11 @@
 use Prim.Native.Nat.{ℕ, _<_}
 use mathlib.Core.Path.{_≡_}
 use mathlib.Core.Bool.{Bool, true, not, _&&_}
+use mathlib.Core.List.{List}
 use lib.Dec.{eqb, ltb}
 use lib.ListN.{getD, replicate}
-use Rattle.bits.specs.Bits.{bit, total, tally}
+use Rattle.basics.specs.Choice.{pick}
+use Rattle.bits.specs.Bits.{bit, pack, total, tally, each}
 use Rattle.table.specs.Limits.{mostWires}
 use Rattle.table.specs.declared.tables.Table.{Table}
 
@@ -36,6 +38,14 @@ takes t wire = used (t .width) (t .taking) wire
 -- how many marks count
 unfoldable pub marksOf : Table → ℕ
 marksOf t = total mostWires (λ lender. tally mostWires (counts t lender))
+
+-- the marks that count, a row for each lender
+abbrev pub markRows : Table → List ℕ
+markRows t = each mostWires (λ lender. pack mostWires (counts t lender))
+
+-- how many rows there are of wires below the width
+abbrev pub rowsBelow : ℕ → ℕ
+rowsBelow width = pick (ltb width mostWires) width mostWires
 
 -- no wires and no marks
 unfoldable pub emptyTable : Table

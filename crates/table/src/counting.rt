@@ -5,12 +5,14 @@ use crate::offering::accept;
 use crate::offering::judge;
 use crate::offering::wrong_width;
 use crate::rows::counting;
+use crate::rows::rows_below;
 use crate::rows::unused;
+use crate::tables::Row;
 use crate::tables::Table;
 use records::Refusal;
 use records::Wire;
 ghost use mathlib.Core.Path.{_≡_};
-ghost use Rattle.table.specs.Marks.{marksOf};
+ghost use Rattle.table.specs.Marks.{marksOf, markRows};
 ghost use Rattle.table.specs.Calls.{countOf, scoreOf, tallied};
 
 fn marks_of(table: Table) -> u32
@@ -18,13 +20,30 @@ fn marks_of(table: Table) -> u32
 {
     let lenders = unused(table.width, table.lending);
     let takers = unused(table.width, table.taking);
+    let end = rows_below(table.width);
     let mut n: u32 = 0;
     let mut u: u8 = 0;
-    while u < Table::MOST {
+    while u < end {
         n += u32::count_ones(counting(lenders, takers, table.rows[u as usize], Wire(u)));
         u += 1;
     }
     n
+}
+
+// The marks that count, a row for each lender.
+pub fn all_marks(table: Table) -> [Row; Table::ROWS]
+    ensures { λ r. ⌜ r ≡ markRows table ⌝ }
+{
+    let lenders = unused(table.width, table.lending);
+    let takers = unused(table.width, table.taking);
+    let end = rows_below(table.width);
+    let mut rows = [0; Table::ROWS];
+    let mut u: u8 = 0;
+    while u < end {
+        rows[u as usize] = counting(lenders, takers, table.rows[u as usize], Wire(u));
+        u += 1;
+    }
+    rows
 }
 
 // How many marks count.

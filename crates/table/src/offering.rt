@@ -6,6 +6,7 @@ use crate::rows::Change;
 use crate::rows::counting;
 use crate::rows::has;
 use crate::rows::row_after;
+use crate::rows::rows_below;
 use crate::rows::unused;
 use crate::rows::use_wire;
 use crate::rows::without;
@@ -130,9 +131,10 @@ pub fn accept(table: Table, lender: Wire, taker: Wire) -> Table
     let change = change_of(table, lender, taker);
     let lending = use_wire(table.width, table.lending, lender);
     let taking = use_wire(table.width, table.taking, taker);
+    let end = rows_below(table.width);
     let mut rows = [0; Table::ROWS];
     let mut u: u8 = 0;
-    while u < Table::MOST {
+    while u < end {
         rows[u as usize] = row_after(change, table.rows[u as usize], Wire(u));
         u += 1;
     }

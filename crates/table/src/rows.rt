@@ -7,7 +7,7 @@ ghost use mathlib.Core.Bool.{_&&_, _||_, not};
 ghost use lib.Dec.{ltb, eqb};
 ghost use Rattle.bits.specs.Bits.{bit, pack};
 ghost use Rattle.table.specs.Limits.{mostWires};
-ghost use Rattle.table.specs.Marks.{used, free, countsAmong};
+ghost use Rattle.table.specs.Marks.{used, free, countsAmong, rowsBelow};
 ghost use Rattle.table.specs.Rule.{rowAfter, usedAfter};
 ghost use Rattle.table.specs.Changes.{changed};
 
@@ -39,6 +39,17 @@ fn below(width: u8) -> Row
         (1 << width) - 1
     } else {
         !0
+    }
+}
+
+// How many rows there are of wires below the width: past them no mark counts.
+pub fn rows_below(width: u8) -> u8
+    ensures { λ r. ⌜ r ≡ rowsBelow width ⌝ }
+{
+    if width < Table::MOST {
+        width
+    } else {
+        Table::MOST
     }
 }
 
@@ -83,7 +94,7 @@ pub fn counting(lenders: Row, takers: Row, row: Row, lender: Wire) -> Row
 }
 
 // What an offer leaves of a row whose marks all count.
-fn left(given: Row, row: Row, taker: Wire) -> Row
+pub fn row_left(given: Row, row: Row, taker: Wire) -> Row
     ensures { λ r. ⌜ r ≡ pack mostWires (rowAfter (λ v. bit v given) (λ v. bit v row) (taker .0)) ⌝ }
 {
     if has(row, taker) {
@@ -98,5 +109,5 @@ pub fn row_after(change: Change, row: Row, wire: Wire) -> Row
     ensures { λ r. ⌜ r ≡ pack mostWires (changed change row (wire .0)) ⌝ }
 {
     let marks = counting(change.lenders, change.takers, row, wire);
-    left(change.given, marks, change.taker)
+    row_left(change.given, marks, change.taker)
 }
