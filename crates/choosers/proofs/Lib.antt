@@ -1,4 +1,5 @@
 pub mod YesPairs
+pub mod Scores
 pub mod BestPairs
 pub mod GreedyRounds
 pub mod Underway

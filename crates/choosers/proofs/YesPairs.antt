@@ -1,11 +1,10 @@
--- A pair's offer and its score, by whether its mark is yes. Assumes nothing.
+-- What a yes mark says of its pair, and its offer. Assumes nothing.
 use Prim.Native.Nat.{ℕ, _*_, _-_, _≤_, _<_}
-use mathlib.Core.Path.{_≡_, refl, sym, ap, _∙_}
+use mathlib.Core.Path.{_≡_, refl, ap, _∙_}
 use mathlib.Core.Bool.{true, false, not, _&&_, and-false}
 use native.Mathlib.Omega.{arith}
-use Rattle.basics.specs.Outcome.{Outcome, done, refused, handing}
+use Rattle.basics.specs.Outcome.{done}
 use Rattle.basics.proofs.Tests.{both, refuted, neither}
-use Rattle.basics.proofs.Outcomes.{not-refused, handing-done}
 use borrow.Author.Tests.{ltb-true, ltb-false, eq-eqb, not-true}
 use lib.Dec.{eqb, ltb}
 use lib.ListN.{getD}
@@ -14,10 +13,9 @@ use Rattle.bits.proofs.Sums.{total-none, total-cut, total-le, tally-missing}
 use Rattle.table.specs.Limits.{mostWires}
 use Rattle.table.specs.Marks.{counts, lends, marksOf}
 use Rattle.table.specs.Rule.{accepted, Updated}
-use Rattle.table.specs.Calls.{wrongWidth, mayLend, judged, offered, scoreOf, countOf}
+use Rattle.table.specs.Calls.{wrongWidth, mayLend, offered, countOf}
 use Rattle.table.specs.declared.tables.Table.{Table}
-use Rattle.table.proofs.Offers.{yes-taken, taken-yes, taken-updated}
-use Rattle.choosers.specs.Trying.{scoreIn}
+use Rattle.table.proofs.Offers.{yes-taken, taken-updated}
 
 module _ (t : Table) where
   -- a yes mark is between two wires below the width, of which the lender does not lend
@@ -82,18 +80,3 @@ module _ (t : Table) (right : wrongWidth t ≡ false) where
 
     pub yes-updated : counts t lender taker ≡ true → Updated t lender taker (accepted t lender taker)
     yes-updated mark = taken-updated t lender taker (accepted t lender taker) (yes-offered mark)
-
-    -- a score is given to a yes pair alone, and it is the count after accepting it
-    pub scored : (n : ℕ) → scoreOf t lender taker ≡ done n → (counts t lender taker ≡ true) × (n ≡ scoreIn t lender taker)
-    scored n = go (judged t lender taker) refl
-      where
-        go : (o : Outcome (Unit {0})) → judged t lender taker ≡ o → handing (scoreIn t lender taker) o ≡ done n → (counts t lender taker ≡ true) × (n ≡ scoreIn t lender taker)
-        go (refused number place) j e = absurd (not-refused e)
-        go (done tt) j e =
-            let says : done (counts t lender taker) ≡ done true = sym may-says ∙ taken-yes t lender taker (accepted t lender taker) (ap (handing (accepted t lender taker)) j) in
-            (cc, cc)
-
-    pub not-scored : (number place : ℕ) → scoreOf t lender taker ≡ refused number place → counts t lender taker ≡ false
-    not-scored number place e = refuted (counts t lender taker) (λ mark.
-        let taken = handing-done (accepted t lender taker) (accepted t lender taker) (judged t lender taker) (yes-offered mark) in
-        not-refused (sym e ∙ ap (handing (scoreIn t lender taker)) taken))

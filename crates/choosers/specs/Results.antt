@@ -1,14 +1,18 @@
 -- What a chooser settles, and what the code's answers say of it.
 use Prim.Native.Nat.{ℕ, _+_, _-_, _^_, _≤_}
+use mathlib.Core.Bool.{not, _&&_}
 use mathlib.Core.Option.{Option, none, some}
 use mathlib.Core.List.{List, _++_, map}
-use lib.ListN.{length, take, set, replicate}
+use lib.Dec.{eqb}
+use lib.ListN.{length, take, set, replicate, getD}
 use Rattle.basics.specs.Choice.{pick}
 use Rattle.basics.specs.Outcome.{Outcome, done, refused, handing}
+use Rattle.bits.specs.Bits.{bit, pack, total, tally, each}
 use Rattle.orders.specs.Runs as runs
 use Rattle.records.specs.Records.{wire}
 use Rattle.table.specs.Limits.{mostWires}
-use Rattle.table.specs.Rule.{accepted}
+use Rattle.table.specs.Marks.{counts}
+use Rattle.table.specs.Rule.{rowAfter, accepted}
 use Rattle.table.specs.Calls.{wrongWidth}
 use Rattle.table.specs.declared.tables.Table.{Table}
 use Rattle.choosers.specs.Trying as trying
@@ -81,6 +85,14 @@ triedOf b = record { pair = (b .pair .lender .0, b .pair .taker .0); score = b .
 abbrev pub bestSaid : Best → Option trying.Tried
 bestSaid best.Nothing = none
 bestSaid (best.Found b) = some (triedOf b)
+
+-- the marks that count in the rows of the other lenders
+abbrev pub otherRows : Table → ℕ → List ℕ
+otherRows t lender = each mostWires (λ u. pack mostWires (λ v. not (eqb u lender) && counts t u v))
+
+-- how many marks these rows keep, below the width, once a lender with the marks `given` lends to the taker
+abbrev pub marksLeft : List ℕ → ℕ → ℕ → ℕ → ℕ
+marksLeft rows width given taker = total width (λ u. tally mostWires (rowAfter (λ v. bit v given) (λ v. bit v (getD rows u 0)) taker))
 
 -- one pair more in the list
 abbrev pub stored : PairList → Pair → PairList

@@ -6,19 +6,24 @@ use crate::answers::PairList;
 use crate::answers::Rounds;
 use records::Wire;
 use table::Counted;
+use table::Row;
 use table::Table;
+use table::all_marks;
 use table::count;
 use table::offer;
-use table::score;
+use table::row_left;
 ghost use mathlib.Core.Path.{_≡_};
 ghost use mathlib.Core.Bool.{false};
-ghost use Prim.Native.Nat.{_+_, _<_};
+ghost use Prim.Native.Nat.{_+_, _<_, _≤_};
+ghost use lib.ListN.{length};
 ghost use Rattle.basics.specs.Outcome.{beside};
+ghost use Rattle.bits.specs.Bits.{pack};
+ghost use Rattle.table.specs.Limits.{mostWires};
 ghost use Rattle.table.specs.Marks.{counts};
 ghost use Rattle.table.specs.Calls.{wrongWidth, countOf};
-ghost use Rattle.choosers.specs.Trying.{better, tryPair, tryTakers, tryLenders, scoreIn, bestPair};
+ghost use Rattle.choosers.specs.Trying.{better, tryTakers, tryLenders, scoreIn, bestPair};
 ghost use Rattle.choosers.specs.Greedy.{greedyFrom, ended};
-ghost use Rattle.choosers.specs.Results.{mostPairs, trialsLimit, bestSaid, triedOf, stored, roundAfter, handedBack, greedyOf, settled};
+ghost use Rattle.choosers.specs.Results.{mostPairs, trialsLimit, bestSaid, triedOf, otherRows, marksLeft, stored, roundAfter, handedBack, greedyOf, settled};
 
 // A pair that was tried, and its score.
 struct Tried {
@@ -48,33 +53,41 @@ fn better_of(best: Best, new: Tried) -> Best
     }
 }
 
-// Tries one pair, if its mark is yes.
-fn try_pair(table: Table, lender: Wire, taker: Wire, best: Best) -> Best
-    requires { ⌜ wrongWidth table ≡ false ⌝ }
-    ensures { λ r. ⌜ bestSaid r ≡ tryPair (counts table) (scoreIn table) (lender .0) (taker .0) (bestSaid best) ⌝ }
+// How many marks the rows of the other lenders keep once a lender with these marks lends to the taker. The rows are counted with
+// `usize`: the compiler then takes several at a time.
+fn marks_left(rows: &[Row; Table::ROWS], width: u8, given: Row, taker: Wire) -> u32
+    requires { ⌜ length (now rows) ≡ mostWires ⌝ }
+    requires { ⌜ width ≤ mostWires ⌝ }
+    ensures { λ r. ⌜ r ≡ marksLeft (now (rows .entry)) width given (taker .0) ⌝ }
 {
-    let counted = score(table, lender, taker);
-    match counted {
-        Counted::Marks(score) => better_of(
-            best,
-            Tried {
-                pair: Pair { lender, taker },
-                score,
-            },
-        ),
-        Counted::Refused(_) => best,
+    let end = width as usize;
+    let mut n: u32 = 0;
+    let mut u: usize = 0;
+    while u < end {
+        n += u32::count_ones(row_left(given, rows[u], taker));
+        u += 1;
     }
+    n
 }
 
-// Tries the takers of one lender, rising.
-fn try_takers(table: Table, lender: Wire, best: Best) -> Best
+// Tries the takers of one lender, rising. Its own marks are given, and its row is empty.
+fn try_takers(table: Table, rows: &[Row; Table::ROWS], given: Row, lender: Wire, best: Best) -> Best
     requires { ⌜ wrongWidth table ≡ false ⌝ }
+    requires { ⌜ now rows ≡ otherRows table (lender .0) ⌝ }
+    requires { ⌜ given ≡ pack mostWires (counts table (lender .0)) ⌝ }
     ensures { λ r. ⌜ bestSaid r ≡ tryTakers (counts table) (scoreIn table) (lender .0) (table .width) (bestSaid best) ⌝ }
 {
     let mut now = best;
     let mut taker: u8 = 0;
     while taker < table.width {
-        now = try_pair(table, lender, Wire(taker), now);
+        if (given >> taker) % 2 == 1 {
+            let score = marks_left(rows, table.width, given, Wire(taker));
+            let pair = Pair {
+                lender,
+                taker: Wire(taker),
+            };
+            now = better_of(now, Tried { pair, score });
+        }
         taker += 1;
     }
     now
@@ -85,10 +98,15 @@ fn try_pairs(table: Table) -> Best
     requires { ⌜ wrongWidth table ≡ false ⌝ }
     ensures { λ r. ⌜ bestSaid r ≡ tryLenders (counts table) (scoreIn table) (table .width) (table .width) ⌝ }
 {
+    let mut rows = all_marks(table);
     let mut best = Best::Nothing;
     let mut lender: u8 = 0;
     while lender < table.width {
-        best = try_takers(table, Wire(lender), best);
+        let at = lender as usize;
+        let given = rows[at];
+        rows[at] = 0;
+        best = try_takers(table, &rows, given, Wire(lender), best);
+        rows[at] = given;
         lender += 1;
     }
     best

@@ -44,7 +44,8 @@ pub change-left : (c : Change) (row wire m : ℕ) → row < 2 ^ mostWires
     → pack mostWires (rowAfter (λ v. bit v (c .given)) (λ v. bit v m) (c .taker .0)) ≡ pack mostWires (changed c row wire)
 change-left c row wire m fits e = left-is mostWires (c .given) (c .taker .0) _ m (marked mostWires (λ i. bit i (c .lenders)) (λ i. bit i (c .takers)) row wire fits m e)
 
-spread : (a b c d e : Bool) → (b && ((a && c) && (d || (a && e)))) ≡ (a && (b && (c && (d || e))))
+-- `a`, "u is not the lender": the rule of the update with it before the row's marks, or before the whole
+pub spread : (a b c d e : Bool) → (b && ((a && c) && (d || (a && e)))) ≡ (a && (b && (c && (d || e))))
 spread true b c d e = refl
 spread false true c d e = refl
 spread false false c d e = refl

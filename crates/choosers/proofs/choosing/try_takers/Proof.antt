@@ -1,28 +1,43 @@
 -- `choosers::choosing::try_takers` meets its contract: before each turn the takers below have been tried. Assumes nothing.
 use Prim.Native.Nat.{_≤_, _-_}
 use mathlib.Core.Path.{_≡_, refl, ap, _∙_}
+use mathlib.Core.Logic.{⊎-elim}
 use native.Mathlib.Numerals.{add-one}
 use native.Mathlib.Omega.{arith}
 use borrow.Author.Needs.{needs}
+use lib.ListN.{length}
+use Rattle.bits.proofs.Lists.{length-each}
 use Rattle.table.specs.Marks.{counts}
 use Rattle.choosers.specs.Trying.{tryPair, tryTakers, scoreIn}
 use Rattle.choosers.specs.Results.{bestSaid}
+use Rattle.choosers.proofs.YesPairs.{fits}
+use Rattle.choosers.proofs.Scores.{tries-yes, tries-not}
 use Rattle.choosers.proofs.choosing.try_takers.Statement.{statement}
 use Rattle.choosers.proofs.choosing.try_takers.Tie as tie
 
 abbrev Inv-loop : tie.InvT-loop
-Inv-loop table lender now₀ taker₀ now taker =
+Inv-loop table rows given lender now₀ taker₀ now taker =
     (taker ≤ table .width) × (bestSaid now ≡ tryTakers (counts table) (scoreIn table) (lender .0) taker (bestSaid now₀))
 
 abbrev μ-loop : tie.MeasureT-loop
-μ-loop table lender now₀ taker₀ now taker = table .width - taker
+μ-loop table rows given lender now₀ taker₀ now taker = table .width - taker
 
 loop-holds : tie.Need-loop-holds Inv-loop μ-loop
 unfolding tryTakers
 loop-holds c = (search needs, refl)
 
-try-pair-requires : tie.Need-try-pair-requires Inv-loop μ-loop
-try-pair-requires c κs = c .before .before .before .pre
+cast-if2 : tie.Need-cast-if2 Inv-loop μ-loop
+cast-if2 c = search needs
+
+shr-if2 : tie.Need-shr-if2 Inv-loop μ-loop
+shr-if2 c = let s = c .before .before .before in omega (arith, fits (s .args .table) (s .pre .0), c .if1 .taken)
+
+marks-left-requires : tie.Need-marks-left-requires Inv-loop μ-loop
+marks-left-requires c κs = let s = c .before .before .before .before in
+    (ap length (s .pre .1 .0) ∙ length-each _ _, fits (s .args .table) (s .pre .0))
+
+better-of-requires : tie.Need-better-of-requires Inv-loop μ-loop
+better-of-requires c κs = search needs
 
 add-taker : tie.Need-add-taker Inv-loop μ-loop
 add-taker c = search needs
@@ -32,8 +47,19 @@ loop-less c = search needs
 
 loop-again : tie.Need-loop-again Inv-loop μ-loop
 unfolding tryTakers
-loop-again c = let t = c .before .before .before .before .args .table in
-    (search needs, c .try-pair .ensures ∙ rw add-one (ap (tryPair (counts t) (scoreIn t) (c .before .before .before .before .args .lender .0) (c .before .before .before .loop .taker)) (c .before .before .before .loop .inv .1)))
+loop-again c =
+    let s = c .before .before .before .before in
+    let l = c .before .before .before .loop in
+    let t = s .args .table in
+    let before = l .inv .1 in (
+      search needs,
+      rw add-one
+          (⊎-elim
+          (λ w. ap bestSaid (w .3) ∙ w .2 .ensures ∙ tries-yes t (s .pre .0) (s .args .lender .0) _ (s .args .given) (s .pre .1 .0) (s .pre .1 .1) (l .taker) (c .before .if1 .taken) (bestSaid (l .now)) (w .0 .taken) _ (w .1 .ensures))
+          (λ w. ap bestSaid (w .1) ∙ tries-not t (s .pre .0) (s .args .lender .0) _ (s .args .given) (s .pre .1 .0) (s .pre .1 .1) (l .taker) (c .before .if1 .taken) (bestSaid (l .now)) (w .0 .left))
+          (c .if2 .came)
+          ∙ ap (tryPair (counts t) (scoreIn t) (s .args .lender .0) (l .taker)) before),
+    )
 
 returns : tie.Need-returns Inv-loop μ-loop
 returns c = let e : c .before .before .loop .taker ≡ c .before .before .before .args .table .width = omega arith in rw e at (c .before .before .loop .inv .1)
@@ -41,4 +67,15 @@ returns c = let e : c .before .before .loop .taker ≡ c .before .before .before
 pub try-takers-spec : {M : Type 1} → statement M
 try-takers-spec =
     tie.close
-    (tie.spec Inv-loop μ-loop loop-holds try-pair-requires add-taker loop-less loop-again returns)
+    (tie.spec
+    Inv-loop
+    μ-loop
+    loop-holds
+    cast-if2
+    shr-if2
+    marks-left-requires
+    better-of-requires
+    add-taker
+    loop-less
+    loop-again
+    returns)
