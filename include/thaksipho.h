@@ -1,7 +1,7 @@
 /* Thaksipho: qubit reuse for quantum circuits, proved. The calls of libthaksipho.a.
  *
  * The archive is written by `rt staticlib thaksipho` to target/staticlib, for Linux on x86-64. It needs
- * memcpy and nothing else. examples/compile_a.c is a whole program.
+ * memcpy and memset and nothing else. examples/compile_a.c is a whole program.
  *
  * WHO OWNS WHAT. Every buffer is the caller's, before, during and after a call. The library allocates
  * nothing, keeps nothing from one call to the next and has no state, so calls may be made from many
