@@ -22,7 +22,8 @@
  *     Where the length is 0 the pointer is not followed and may be NULL;
  *   - `out` overlaps none of the other buffers of the same call (those that are only read may overlap);
  *   - nobody else writes to the buffers, or reads `out`, while the call runs;
- *   - there are a few kilobytes of stack (docs/PERFORMANCE.md has what was measured).
+ *   - there is stack enough: for thaksipho_compile 20 kilobytes and some more, for the others two
+ *     (docs/PERFORMANCE.md has what was measured).
  * All else is answered: any bytes, of any length, are a circuit, a pair list or a table, or are refused.
  *
  * THE NUMBERS. A wire is a line of the static circuit, a qubit a line of the dynamic one, a bit receives
