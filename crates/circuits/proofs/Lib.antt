@@ -1,5 +1,6 @@
 pub mod Turns
 pub mod Steps
+pub mod Sketches
 pub mod Walks
 pub mod Validity
 pub mod Rewrites

@@ -5,6 +5,7 @@ use Rattle.records.specs.declared.answers.Refusal.{Refusal}
 use Rattle.records.proofs.Unique.{refusal-one}
 use Rattle.circuits.specs.Judging.{verdictOf}
 use Rattle.circuits.specs.Stepping.{foundOf}
+use Rattle.circuits.specs.Sketching.{glimpsed}
 use Rattle.circuits.specs.Reading.{readingOf}
 use Rattle.circuits.specs.Rewriting.{rewritingOf}
 use Rattle.circuits.specs.declared.judging.Fault.{Fault}
@@ -12,6 +13,8 @@ use Rattle.circuits.specs.declared.judging.Verdict.{Verdict}
 use Rattle.circuits.specs.declared.judging.Verdict.the-variants as verdict
 use Rattle.circuits.specs.declared.stepping.Found.{Found}
 use Rattle.circuits.specs.declared.stepping.Found.the-variants as found
+use Rattle.circuits.specs.declared.sketching.Glimpse.{Glimpse}
+use Rattle.circuits.specs.declared.sketching.Glimpse.the-variants as glimpse
 use Rattle.circuits.specs.declared.reading.Reading.{Reading}
 use Rattle.circuits.specs.declared.reading.Reading.the-variants as reading
 use Rattle.circuits.specs.declared.rewriting.Rewriting.{Rewriting}
@@ -36,6 +39,17 @@ found-one (found.Refused r) (found.Step j n) e = cc
 found-one (found.Refused r) found.End e = cc
 found-one found.End (found.Step j n) e = cc
 found-one found.End (found.Refused q) e = cc
+
+pub glimpse-one : (a b : Glimpse) → glimpsed a ≡ glimpsed b → a ≡ b
+glimpse-one (glimpse.Step k m) (glimpse.Step l n) e = cc
+glimpse-one (glimpse.Refused r) (glimpse.Refused q) e = ap (λ (x : Refusal). glimpse.Refused x) (refusal-one e)
+glimpse-one glimpse.End glimpse.End e = refl
+glimpse-one (glimpse.Step k m) (glimpse.Refused q) e = cc
+glimpse-one (glimpse.Step k m) glimpse.End e = cc
+glimpse-one (glimpse.Refused r) (glimpse.Step l n) e = cc
+glimpse-one (glimpse.Refused r) glimpse.End e = cc
+glimpse-one glimpse.End (glimpse.Step l n) e = cc
+glimpse-one glimpse.End (glimpse.Refused q) e = cc
 
 pub reading-one : (a b : Reading) → readingOf a ≡ readingOf b → a ≡ b
 reading-one (reading.Valid c) (reading.Valid d) e = cc

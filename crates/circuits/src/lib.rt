@@ -4,6 +4,7 @@ pub mod judging;
 pub mod lines;
 pub mod reading;
 pub mod rewriting;
+pub mod sketching;
 pub mod states;
 pub mod stepping;
 
@@ -18,6 +19,9 @@ pub use reading::Reading;
 pub use reading::read;
 pub use rewriting::Rewriting;
 pub use rewriting::rewrite;
+pub use sketching::Glimpse;
+pub use sketching::Sketch;
+pub use sketching::sketch_at;
 pub use states::States;
 pub use stepping::Found;
 pub use stepping::step_at;
