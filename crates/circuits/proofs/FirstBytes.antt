@@ -66,7 +66,7 @@ module _ (s : List ℕ) (n : ℕ) (long : n < length s) where
       P : ℕ → States → ℕ → Outcome (List Instruction) → Type 0
       P left c at o = reachOf left at < n → readFrom left (take n s) width c at ≡ o
 
-      at-end : (left : ℕ) (c : States) (at : ℕ) → checkedAt s at left width c ≡ done end → P left c at (ending width c)
+      at-end : (left : ℕ) (c : States) (at : ℕ) → checkedAt s at left width c ≡ done end → P left c at (ending width (c .lines))
       at-end left c at e h = reads-end (take n s) width c at left (checked-same width c at left h ∙ e)
 
       at-refusal : (left : ℕ) (c : States) (at m p : ℕ) → checkedAt s at left width c ≡ refused m p → P left c at (refused m p)

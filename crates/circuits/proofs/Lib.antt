@@ -1,6 +1,7 @@
 pub mod Turns
 pub mod Steps
 pub mod Sketches
+pub mod Takes
 pub mod Walks
 pub mod Validity
 pub mod Rewrites

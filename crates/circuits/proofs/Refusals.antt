@@ -140,7 +140,7 @@ module _ (s : List ℕ) (at : ℕ) where
 abbrev Below : ℕ → ℕ → Type 0
 Below most p = p ≤ most
 
-ending-refuses : (width most : ℕ) (c : States) → width ≤ most → Refuses (Below most) (ending width c)
+ending-refuses : (width most : ℕ) (c : States) → width ≤ most → Refuses (Below most) (ending width (c .lines))
 unfolding ending
 ending-refuses width most c h = go (ltb (firstUnfinished width (c .lines) 0) width) refl
   where
@@ -156,7 +156,7 @@ reading-refuses s width most narrow = by-turns s width P at-end at-refusal at-st
     P : ℕ → States → ℕ → Outcome (List Instruction) → Type 0
     P left c at o = reachOf left at ≤ most → Refuses (Below most) o
 
-    at-end : (left : ℕ) (c : States) (at : ℕ) → checkedAt s at left width c ≡ done end → P left c at (ending width c)
+    at-end : (left : ℕ) (c : States) (at : ℕ) → checkedAt s at left width c ≡ done end → P left c at (ending width (c .lines))
     at-end left c at e far = ending-refuses width most c narrow
 
     at-refusal : (left : ℕ) (c : States) (at n p : ℕ) → checkedAt s at left width c ≡ refused n p → P left c at (refused n p)

@@ -63,7 +63,7 @@ module _ (s : List ℕ) (at : ℕ) where
 -- The reading from a place on
 
 module _ (s : List ℕ) (width : ℕ) (c : States) (at : ℕ) where
-  pub reads-end : (left : ℕ) → checkedAt s at left width c ≡ done end → readFrom left s width c at ≡ ending width c
+  pub reads-end : (left : ℕ) → checkedAt s at left width c ≡ done end → readFrom left s width c at ≡ ending width (c .lines)
   unfolding readFrom
   reads-end zero e = rw e
   reads-end (suc left) e = rw e
@@ -105,7 +105,7 @@ module _ (width : ℕ) (states : List ℕ) (i : ℕ) where
   unfolding firstUnfinished
   unfinished-none h = let z : width - i ≡ 0 = omega arith in ap (λ (n : ℕ). firstUnfinished n states i) z
 
--- a step that passed: the reading goes on behind it, with one instruction more and one less allowed
+-- a step that passed: the reading goes on behind it, with one instruction less allowed
 module _ (s : List ℕ) (width : ℕ) (c : States) (at left : ℕ) {i : Instruction} {next : ℕ} (e : checkedAt s at left width c ≡ done (step i next)) where
   pub passed-left : 0 < left
   passed-left = some-left s at left (checked-step s at left width c e .0)
@@ -115,14 +115,6 @@ module _ (s : List ℕ) (width : ℕ) (c : States) (at left : ℕ) {i : Instruct
       let z : left ≡ suc (left - 1) = omega (arith, passed-left) in
       ap (λ (n : ℕ). readFrom n s width c at) z
       ∙ reads-step s width c at (left - 1) (ap (λ (n : ℕ). checkedAt s at n width c) (sym z) ∙ e)
-
-  pub counts-on : (most : ℕ) → left ≤ most
-      → counted width (most - left) (readFrom left s width c at) ≡ counted width (most - (left - 1)) (readFrom (left - 1) s width (advanceOf c i) next)
-  counts-on most few =
-      let z : most - left + 1 ≡ most - (left - 1) = omega (arith, passed-left) in
-      ap (counted width (most - left)) reads-on
-      ∙ counted-before width (most - left) i (readFrom (left - 1) s width (advanceOf c i) next)
-      ∙ ap (λ (n : ℕ). counted width n (readFrom (left - 1) s width (advanceOf c i) next)) z
 
 -- after the header: the width, and the count of the instructions from none on
 pub reads-after : (s : List ℕ) (w : ℕ) → headerOf s ≡ done w
@@ -136,7 +128,7 @@ reads-after s w e = rw e (told (readFrom mostInstructions s w freshStates header
 
 -- What holds at the end, at a refusal and before each instruction that passed holds of every reading.
 module _ (s : List ℕ) (width : ℕ) (P : ℕ → States → ℕ → Outcome (List Instruction) → Type 0)
-    (at-end : (left : ℕ) (c : States) (at : ℕ) → checkedAt s at left width c ≡ done end → P left c at (ending width c))
+    (at-end : (left : ℕ) (c : States) (at : ℕ) → checkedAt s at left width c ≡ done end → P left c at (ending width (c .lines)))
     (at-refusal : (left : ℕ) (c : States) (at n p : ℕ) → checkedAt s at left width c ≡ refused n p → P left c at (refused n p))
     (at-step : (left : ℕ) (c : States) (at : ℕ) (i : Instruction) (next : ℕ) (o : Outcome (List Instruction))
     → checkedAt s at (suc left) width c ≡ done (step i next) → P left (advanceOf c i) next o → P (suc left) c at (before i o)) where

@@ -31,7 +31,7 @@ use Rattle.circuits.proofs.Walks.{steps-bytes, bytes-steps}
 module _ (s : List ℕ) (width : ℕ) where
   -- From a reading to what stands
 
-  ended-passes : (c : States) {is : List Instruction} → ending width c ≡ done is → (is ≡ []) × Passes width c is
+  ended-passes : (c : States) {is : List Instruction} → ending width (c .lines) ≡ done is → (is ≡ []) × Passes width c is
   unfolding ending
   ended-passes c e = go (ltb (firstUnfinished width (c .lines) 0) width) refl e
     where
@@ -63,7 +63,7 @@ module _ (s : List ℕ) (width : ℕ) where
       P : ℕ → States → ℕ → Outcome (List Instruction) → Type 0
       P left c at o = (is : List Instruction) → o ≡ done is → Stand left c at is
 
-      at-end : (left : ℕ) (c : States) (at : ℕ) → checkedAt s at left width c ≡ done end → P left c at (ending width c)
+      at-end : (left : ℕ) (c : States) (at : ℕ) → checkedAt s at left width c ≡ done end → P left c at (ending width (c .lines))
       at-end left c at z is e =
           let p = ended-passes c e in
           (subst (Steps s at left) (sym (p .0)) (ended (step-end s at left (checked-end at left c z))), p .1)

@@ -34,6 +34,10 @@ used = 1
 abbrev pub freshStates : States
 freshStates = record { lines = replicate mostWires fresh; bits = replicate mostWires 0 }
 
+-- the states as the code keeps them, of the lines and of the bits
+abbrev pub statesOf : List ℕ → List ℕ → States
+statesOf lines bits = record { lines = lines; bits = bits }
+
 abbrev pub lineState : States → Line → ℕ
 lineState c l = getD (c .lines) (l .0) fresh
 

@@ -85,10 +85,16 @@ checked at width c (refused n p) = refused n p
 unfoldable pub checkedAt : List ℕ → ℕ → ℕ → ℕ → States → Outcome Next
 checkedAt s at left width c = checked at width c (stepAt s at left)
 
--- the end of the input: 13 and the lowest line that is unfinished, or no more instructions
-unfoldable pub ending : ℕ → States → Outcome (List Instruction)
-ending width c =
-    pick (ltb (firstUnfinished width (c .lines) 0) width) (refused 13 (firstUnfinished width (c .lines) 0)) (done [])
+-- the states after the next step: brought on where it passed
+abbrev pub statesAfter : States → Outcome Next → States
+statesAfter c (done (step i next)) = advanceOf c i
+statesAfter c (done end) = c
+statesAfter c (refused n p) = c
+
+-- the end of the input, by the states of the lines: 13 and the lowest line that is unfinished, or no more instructions
+unfoldable pub ending : ℕ → List ℕ → Outcome (List Instruction)
+ending width lines =
+    pick (ltb (firstUnfinished width lines 0) width) (refused 13 (firstUnfinished width lines 0)) (done [])
 
 -- an instruction before those that follow it
 abbrev pub before : Instruction → Outcome (List Instruction) → Outcome (List Instruction)
@@ -102,9 +108,9 @@ followed ends (refused n p) rest = refused n p
 
 -- the instructions from a place on, where `left` more are allowed, or the first fault
 unfoldable pub readFrom : ℕ → List ℕ → ℕ → States → ℕ → Outcome (List Instruction)
-readFrom zero s width c at = followed (ending width c) (checkedAt s at zero width c) (λ i next. refused 5 at)
+readFrom zero s width c at = followed (ending width (c .lines)) (checkedAt s at zero width c) (λ i next. refused 5 at)
 readFrom (suc left) s width c at =
-    followed (ending width c) (checkedAt s at (suc left) width c) (λ i next. readFrom left s width (advanceOf c i) next)
+    followed (ending width (c .lines)) (checkedAt s at (suc left) width c) (λ i next. readFrom left s width (advanceOf c i) next)
 
 abbrev pub widthened : ℕ → Outcome (List Instruction) → Outcome Static
 widthened w (done is) = done (record { width = w; steps = is })

@@ -5,7 +5,9 @@ use Rattle.records.specs.declared.kinds.Form.{Form}
 use Rattle.records.specs.declared.kinds.Form.the-variants as form
 use Rattle.records.specs.declared.instructions.Instruction.{Instruction}
 use Rattle.records.specs.declared.instructions.Instruction.the-variants.{Reset, Measurement, Gate, AngledGate, TwoLineGate, AngledTwoLineGate}
+use Rattle.circuits.specs.Judging.{Verdict, inUse, finished, lineSet, bitSet, judgeReset, judgeMeasurement, judgeGate, judgeTwo}
 use Rattle.circuits.specs.Stepping.{Next, step, end}
+use Rattle.circuits.specs.declared.states.States.{States}
 use Rattle.circuits.specs.declared.sketching.Sketch.{Sketch}
 use Rattle.circuits.specs.declared.sketching.Sketch.the-variants as sketch
 use Rattle.circuits.specs.declared.sketching.Glimpse.{Glimpse}
@@ -47,3 +49,17 @@ operandsOf form.AngledGate = 1
 operandsOf form.TwoLineGate = 2
 operandsOf form.AngledTwoLineGate = 2
 operandsOf form.Reuse = 2
+
+-- the first fault of an instruction, and the states after it, by its sketch
+
+abbrev pub judgeSketch : ℕ → ℕ → States → Sketch → Verdict
+judgeSketch lines bits c (sketch.Reset l) = judgeReset lines c l
+judgeSketch lines bits c (sketch.Measurement l b) = judgeMeasurement lines bits c l b
+judgeSketch lines bits c (sketch.One l) = judgeGate lines c l
+judgeSketch lines bits c (sketch.Two l m) = judgeTwo lines c l m
+
+abbrev pub advanceSketch : States → Sketch → States
+advanceSketch c (sketch.Reset l) = lineSet c l inUse
+advanceSketch c (sketch.Measurement l b) = bitSet (lineSet c l finished) b
+advanceSketch c (sketch.One l) = c
+advanceSketch c (sketch.Two l m) = c

@@ -1,11 +1,16 @@
 // An instruction judged after those before it: 6, 7, then for the first and then the second line 10 before 8 or 9, then
 // 11, 12. The judge never sees bytes; it says which operand is at fault, and `place_of` alone says where that is.
+use crate::sketching::Sketch;
 use crate::states::States;
+use crate::states::set_state;
+use crate::states::state_at;
 use records::Bit;
-use records::Instruction;
 use records::Line;
 ghost use mathlib.Core.Path.{_≡_};
-ghost use Rattle.circuits.specs.Judging.{verdictOf, fault, placeOf, live, judgeReset, judgeMeasurement, judgeGate, judgeTwo, judgeOf, advanceOf};
+ghost use mathlib.Core.List.{List};
+ghost use Prim.Native.Nat.{ℕ};
+ghost use Rattle.circuits.specs.Judging.{statesOf, verdictOf, fault, placeOf, live, judgeReset, judgeMeasurement, judgeGate, judgeTwo};
+ghost use Rattle.circuits.specs.Sketching.{judgeSketch, advanceSketch};
 
 // A number of document 01's table, and which operand it speaks of: 1 the first, 2 the second.
 pub struct Fault {
@@ -31,11 +36,11 @@ pub fn place_of(at: usize, f: Fault) -> usize
     at
 }
 
-// A gate or a measurement needs a line that is reset and not measured.
-fn judge_live(states: States, line: Line, operand: u8) -> Verdict
-    ensures { λ r. ⌜ verdictOf r ≡ live operand states line ⌝ }
+// A gate or a measurement needs a line that is reset and not measured. It asks for no bit's state.
+fn judge_live(progress: &[u8], line: Line, operand: u8) -> Verdict
+    ensures { λ r. ⌜ ((bs : List ℕ) → verdictOf r ≡ live operand (statesOf (now (progress .entry)) bs) line) ⌝ }
 {
-    let state = states.of_line(line);
+    let state = state_at(progress, line.0);
     if state == States::DONE {
         return at_fault(10, operand);
     }
@@ -45,13 +50,13 @@ fn judge_live(states: States, line: Line, operand: u8) -> Verdict
     Verdict::Passed
 }
 
-fn judge_reset(lines: u8, states: States, line: Line) -> Verdict
-    ensures { λ r. ⌜ verdictOf r ≡ judgeReset lines states line ⌝ }
+fn judge_reset(lines: u8, progress: &[u8], line: Line) -> Verdict
+    ensures { λ r. ⌜ ((bs : List ℕ) → verdictOf r ≡ judgeReset lines (statesOf (now (progress .entry)) bs) line) ⌝ }
 {
     if lines <= line.0 {
         return at_fault(6, 1);
     }
-    let state = states.of_line(line);
+    let state = state_at(progress, line.0);
     if state == States::DONE {
         return at_fault(10, 1);
     }
@@ -61,25 +66,32 @@ fn judge_reset(lines: u8, states: States, line: Line) -> Verdict
     Verdict::Passed
 }
 
-fn judge_gate(lines: u8, states: States, line: Line) -> Verdict
-    ensures { λ r. ⌜ verdictOf r ≡ judgeGate lines states line ⌝ }
+fn judge_gate(lines: u8, progress: &[u8], line: Line) -> Verdict
+    ensures { λ r. ⌜ ((bs : List ℕ) → verdictOf r ≡ judgeGate lines (statesOf (now (progress .entry)) bs) line) ⌝ }
 {
     if lines <= line.0 {
         return at_fault(6, 1);
     }
-    judge_live(states, line, 1)
+    judge_live(progress, line, 1)
 }
 
-fn judge_measurement(lines: u8, bits: u8, states: States, line: Line, bit: Bit) -> Verdict
-    ensures { λ r. ⌜ verdictOf r ≡ judgeMeasurement lines bits states line bit ⌝ }
+fn judge_measurement(
+    lines: u8,
+    bits: u8,
+    progress: &[u8],
+    uses: &[u8],
+    line: Line,
+    bit: Bit,
+) -> Verdict
+    ensures { λ r. ⌜ verdictOf r ≡ judgeMeasurement lines bits (statesOf (now (progress .entry)) (now (uses .entry))) line bit ⌝ }
 {
-    match judge_gate(lines, states, line) {
+    match judge_gate(lines, progress, line) {
         Verdict::Fault(f) => Verdict::Fault(f),
         Verdict::Passed => {
             if bits <= bit.0 {
                 return at_fault(11, 2);
             }
-            if states.of_bit(bit) == States::USED {
+            if state_at(uses, bit.0) == States::USED {
                 return at_fault(12, 2);
             }
             Verdict::Passed
@@ -87,8 +99,8 @@ fn judge_measurement(lines: u8, bits: u8, states: States, line: Line, bit: Bit) 
     }
 }
 
-fn judge_two(lines: u8, states: States, first: Line, second: Line) -> Verdict
-    ensures { λ r. ⌜ verdictOf r ≡ judgeTwo lines states first second ⌝ }
+fn judge_two(lines: u8, progress: &[u8], first: Line, second: Line) -> Verdict
+    ensures { λ r. ⌜ ((bs : List ℕ) → verdictOf r ≡ judgeTwo lines (statesOf (now (progress .entry)) bs) first second) ⌝ }
 {
     if lines <= first.0 {
         return at_fault(6, 1);
@@ -99,41 +111,35 @@ fn judge_two(lines: u8, states: States, first: Line, second: Line) -> Verdict
     if first.0 == second.0 {
         return at_fault(7, 2);
     }
-    match judge_live(states, first, 1) {
+    match judge_live(progress, first, 1) {
         Verdict::Fault(f) => Verdict::Fault(f),
-        Verdict::Passed => judge_live(states, second, 2),
+        Verdict::Passed => judge_live(progress, second, 2),
     }
 }
 
-// The first fault of an instruction in a circuit of so many lines and bits.
-pub fn judge(lines: u8, bits: u8, states: States, i: Instruction) -> Verdict
-    ensures { λ r. ⌜ verdictOf r ≡ judgeOf lines bits states i ⌝ }
+// The first fault of an instruction, known by its sketch, in a circuit of so many lines and bits.
+pub fn judge(lines: u8, bits: u8, progress: &[u8], uses: &[u8], sketch: Sketch) -> Verdict
+    ensures { λ r. ⌜ verdictOf r ≡ judgeSketch lines bits (statesOf (now (progress .entry)) (now (uses .entry))) sketch ⌝ }
 {
-    match i {
-        Instruction::Reset(line) => judge_reset(lines, states, line),
-        Instruction::Measurement(line, bit) => judge_measurement(lines, bits, states, line, bit),
-        Instruction::Gate(_, line) => judge_gate(lines, states, line),
-        Instruction::AngledGate(_, line, _) => judge_gate(lines, states, line),
-        Instruction::TwoLineGate(_, first, second) => judge_two(lines, states, first, second),
-        Instruction::AngledTwoLineGate(_, first, second, _) => judge_two(
-            lines,
-            states,
-            first,
-            second,
-        ),
+    match sketch {
+        Sketch::Reset(line) => judge_reset(lines, progress, line),
+        Sketch::Measurement(line, bit) => judge_measurement(lines, bits, progress, uses, line, bit),
+        Sketch::One(line) => judge_gate(lines, progress, line),
+        Sketch::Two(first, second) => judge_two(lines, progress, first, second),
     }
 }
 
-// The states after an instruction.
-pub fn advance(states: States, i: Instruction) -> States
-    ensures { λ r. ⌜ r ≡ advanceOf states i ⌝ }
+// Brings the states on past an instruction, known by its sketch.
+pub fn advance(progress: &mut [u8], uses: &mut [u8], sketch: Sketch)
+    ensures { λ r. ⌜ statesOf (now (progress .exit)) (now (uses .exit)) ≡ advanceSketch (statesOf (now (progress .entry)) (now (uses .entry))) sketch ⌝ }
 {
-    match i {
-        Instruction::Reset(line) => states.with_line(line, States::IN_USE),
-        Instruction::Measurement(line, bit) => states.with_line(line, States::DONE).with_bit(bit),
-        Instruction::Gate(_, _) => states,
-        Instruction::AngledGate(_, _, _) => states,
-        Instruction::TwoLineGate(_, _, _) => states,
-        Instruction::AngledTwoLineGate(_, _, _, _) => states,
+    match sketch {
+        Sketch::Reset(line) => set_state(progress, line.0, States::IN_USE),
+        Sketch::Measurement(line, bit) => {
+            set_state(progress, line.0, States::DONE);
+            set_state(uses, bit.0, States::USED);
+        }
+        Sketch::One(_) => {}
+        Sketch::Two(_, _) => {}
     }
 }

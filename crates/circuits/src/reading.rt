@@ -1,16 +1,12 @@
 // The reader: any byte string is a valid circuit, of which the width and the number of instructions are told, or is
 // refused with a number of 1 to 13 and its place, the first fault deciding.
 use crate::circuit::Circuit;
-use crate::judging::Verdict;
-use crate::judging::advance;
-use crate::judging::judge;
-use crate::judging::place_of;
+use crate::sketching::Glimpse;
 use crate::states::States;
-use crate::stepping::Found;
-use crate::stepping::step_at;
+use crate::states::state_at;
+use crate::taking::take_step;
 use records::Answer;
 use records::Form;
-use records::Line;
 use records::Outline;
 use records::Record;
 use records::Refusal;
@@ -21,15 +17,14 @@ ghost use Prim.Native.Nat.{_-_};
 ghost use Rattle.records.specs.Records.{answered};
 ghost use Rattle.circuits.specs.Limits.{mostInstructions, headerLength};
 ghost use Rattle.circuits.specs.Judging.{freshStates, firstUnfinished};
-ghost use Rattle.circuits.specs.Stepping.{foundOf};
-ghost use Rattle.circuits.specs.Reading.{headerRead, staticForm, staticKind, widthRead, headed, headerOf, checkedAt, ending, readFrom, counted, readingOf, summary, readCircuit};
+ghost use Rattle.circuits.specs.Reading.{headerRead, staticForm, staticKind, widthRead, headed, headerOf, ending, readFrom, counted, readingOf, summary, readCircuit};
 
 pub enum Reading {
     Valid(Circuit),
     Refused(Refusal),
 }
 
-enum Header {
+pub enum Header {
     Width(u8),
     Refused(Refusal),
 }
@@ -107,7 +102,7 @@ fn header_from(a: Answer) -> Header
 }
 
 // The header: 1, 2, 3, or the width.
-fn read_header(s: &[u8]) -> Header
+pub fn read_header(s: &[u8]) -> Header
     ensures { λ r. ⌜ headerRead r ≡ headerOf (now (s .entry)) ⌝ }
 {
     if s.len() == 0 {
@@ -126,34 +121,13 @@ fn read_header(s: &[u8]) -> Header
     }
 }
 
-// The next step, judged.
-fn checked_step(s: &[u8], at: usize, left: usize, width: u8, states: States) -> Found
-    ensures { λ r. ⌜ foundOf r ≡ checkedAt (now (s .entry)) at left width states ⌝ }
-{
-    let found = step_at(s, at, left);
-    match found {
-        Found::End => Found::End,
-        Found::Refused(r) => Found::Refused(r),
-        Found::Step { instruction, next } => match judge(width, width, states, instruction) {
-            Verdict::Fault(f) => Found::Refused(Refusal {
-                number: f.number,
-                place: place_of(at, f),
-            }),
-            Verdict::Passed => Found::Step {
-                instruction: instruction,
-                next: next,
-            },
-        },
-    }
-}
-
 // The lowest line that is not measured, or the width where there is none.
-fn lowest_unfinished(width: u8, states: States) -> u8
-    ensures { λ r. ⌜ r ≡ firstUnfinished width (states .lines) 0 ⌝ }
+fn lowest_unfinished(width: u8, progress: &[u8]) -> u8
+    ensures { λ r. ⌜ r ≡ firstUnfinished width (now (progress .entry)) 0 ⌝ }
 {
     let mut i: u8 = 0;
     while i < width {
-        if states.of_line(Line(i)) != States::DONE {
+        if state_at(progress, i) != States::DONE {
             return i;
         }
         i += 1;
@@ -162,10 +136,10 @@ fn lowest_unfinished(width: u8, states: States) -> u8
 }
 
 // The end of the input: 13, or the circuit.
-fn close(width: u8, states: States, instructions: usize) -> Reading
-    ensures { λ r. ⌜ readingOf r ≡ counted width instructions (ending width states) ⌝ }
+pub fn close(width: u8, progress: &[u8], instructions: usize) -> Reading
+    ensures { λ r. ⌜ readingOf r ≡ counted width instructions (ending width (now (progress .entry))) ⌝ }
 {
-    let line = lowest_unfinished(width, states);
+    let line = lowest_unfinished(width, progress);
     if line < width {
         return Reading::Refused(Refusal {
             number: 13,
@@ -182,15 +156,16 @@ fn close(width: u8, states: States, instructions: usize) -> Reading
 fn read_steps(s: &[u8], width: u8) -> Reading
     ensures { λ r. ⌜ readingOf r ≡ counted width 0 (readFrom mostInstructions (now (s .entry)) width freshStates headerLength) ⌝ }
 {
-    let mut states = States::fresh();
+    let fresh = States::fresh();
+    let mut progress = fresh.lines;
+    let mut uses = fresh.bits;
     let mut at = Circuit::HEADER;
     let mut left = Circuit::MOST_INSTRUCTIONS;
     loop {
-        match checked_step(s, at, left, width, states) {
-            Found::End => return close(width, states, Circuit::MOST_INSTRUCTIONS - left),
-            Found::Refused(r) => return Reading::Refused(r),
-            Found::Step { instruction, next } => {
-                states = advance(states, instruction);
+        match take_step(s, at, left, width, &mut progress, &mut uses) {
+            Glimpse::End => return close(width, &progress, Circuit::MOST_INSTRUCTIONS - left),
+            Glimpse::Refused(r) => return Reading::Refused(r),
+            Glimpse::Step { sketch: _, next } => {
                 at = next;
                 left -= 1;
             }

@@ -1,9 +1,8 @@
 // What the lines and the bits of a circuit have been through, from its start up to some instruction.
 use crate::circuit::Circuit;
-use records::Bit;
-use records::Line;
 ghost use mathlib.Core.Path.{_≡_};
-ghost use Rattle.circuits.specs.Judging.{freshStates, lineState, bitState, lineSet, bitSet};
+ghost use lib.ListN.{getD, set};
+ghost use Rattle.circuits.specs.Judging.{fresh, freshStates};
 
 pub struct States {
     // For each line: fresh, in use (reset and not measured), or done (measured).
@@ -29,52 +28,25 @@ impl States {
             bits: [0u8; Circuit::MOST_WIRES],
         }
     }
+}
 
-    // A line's state; fresh past the last line.
-    pub fn of_line(self, line: Line) -> u8
-        ensures { λ r. ⌜ r ≡ lineState self line ⌝ }
-    {
-        let n = line.0 as usize;
-        if n < Circuit::MOST_WIRES {
-            return self.lines[n];
-        }
-        States::FRESH
+// The state of a line among the lines', or of a bit among the bits'; past the last it is 0, a fresh line's and an unused bit's.
+pub(crate) fn state_at(states: &[u8], number: u8) -> u8
+    ensures { λ r. ⌜ r ≡ getD (now (states .entry)) number fresh ⌝ }
+{
+    let n = number as usize;
+    if n < states.len() {
+        return states[n];
     }
+    States::FRESH
+}
 
-    // 1 where a bit is used; 0 past the last bit.
-    pub fn of_bit(self, bit: Bit) -> u8
-        ensures { λ r. ⌜ r ≡ bitState self bit ⌝ }
-    {
-        let n = bit.0 as usize;
-        if n < Circuit::MOST_WIRES {
-            return self.bits[n];
-        }
-        0
-    }
-
-    // The states with one line's changed.
-    pub fn with_line(self, line: Line, state: u8) -> States
-        ensures { λ r. ⌜ r ≡ lineSet self line state ⌝ }
-    {
-        let n = line.0 as usize;
-        if n < Circuit::MOST_WIRES {
-            let mut changed = self;
-            changed.lines[n] = state;
-            return changed;
-        }
-        self
-    }
-
-    // The states with one bit used.
-    pub fn with_bit(self, bit: Bit) -> States
-        ensures { λ r. ⌜ r ≡ bitSet self bit ⌝ }
-    {
-        let n = bit.0 as usize;
-        if n < Circuit::MOST_WIRES {
-            let mut changed = self;
-            changed.bits[n] = States::USED;
-            return changed;
-        }
-        self
+// Changes one state; past the last nothing.
+pub(crate) fn set_state(states: &mut [u8], number: u8, state: u8)
+    ensures { λ r. ⌜ now (states .exit) ≡ set (now (states .entry)) number state ⌝ }
+{
+    let n = number as usize;
+    if n < states.len() {
+        states[n] = state;
     }
 }

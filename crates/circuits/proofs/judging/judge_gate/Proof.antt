@@ -11,14 +11,14 @@ at-fault-requires c κs = search needs
 
 returns : tie.Need-returns
 unfolding judgeGate
-returns c = c .at-fault .ensures ∙ rw (le-leb _ _ (c .before .if1 .taken))
+returns c = λ bs. c .at-fault .ensures ∙ rw (le-leb _ _ (c .before .if1 .taken))
 
 judge-live-requires : tie.Need-judge-live-requires
 judge-live-requires c κs = search needs
 
 returns-2 : tie.Need-returns-2
 unfolding judgeGate
-returns-2 c = c .judge-live .ensures ∙ rw (lt-leb _ _ (c .before .if1 .left))
+returns-2 c = λ bs. c .judge-live .ensures bs ∙ rw (lt-leb _ _ (c .before .if1 .left))
 
 pub judge-gate-spec : {M : Type 1} → statement M
 judge-gate-spec = tie.close (tie.spec at-fault-requires returns judge-live-requires returns-2)

@@ -23,10 +23,10 @@ returns : tie.Need-returns
 unfolding judgeMeasurement
 returns c =
     c .at-fault .ensures
-    ∙ rw (sym (c .before .before .before .before .before .judge-gate .ensures) ∙ ap verdictOf (c .before .before .before .enum-told .given .1), le-leb _ _ (c .before .if1 .taken))
+    ∙ rw (sym (c .before .before .before .before .before .judge-gate .ensures (c .before .before .before .before .before .before .before .before .args .uses .now)) ∙ ap verdictOf (c .before .before .before .enum-told .given .1), le-leb _ _ (c .before .if1 .taken))
 
-of-bit-requires : tie.Need-of-bit-requires
-of-bit-requires c κs = search needs
+state-at-requires : tie.Need-state-at-requires
+state-at-requires c κs = search needs
 
 at-fault-requires-2 : tie.Need-at-fault-requires-2
 at-fault-requires-2 c κs = search needs
@@ -36,22 +36,22 @@ unfolding judgeMeasurement
 returns-2 c =
     c .at-fault2 .ensures
     ∙ rw (
-      sym (c .before .before .before .before .before .before .before .judge-gate .ensures) ∙ ap verdictOf (c .before .before .before .before .before .enum-told .given .1),
+      sym (c .before .before .before .before .before .before .before .judge-gate .ensures (c .before .before .before .before .before .before .before .before .before .before .args .uses .now)) ∙ ap verdictOf (c .before .before .before .before .before .enum-told .given .1),
       lt-leb _ _ (c .before .before .before .if1 .left),
-      eq-eqb _ _ (sym (c .before .before .of-bit .ensures) ∙ c .before .if2 .taken),
+      eq-eqb _ _ (sym (c .before .before .state-at .ensures) ∙ c .before .if2 .taken),
     )
 
 returns-3 : tie.Need-returns-3
 unfolding judgeMeasurement
-returns-3 c = rw (sym (c .before .before .before .judge-gate .ensures) ∙ ap verdictOf (c .before .f .given .1))
+returns-3 c = rw (sym (c .before .before .before .judge-gate .ensures (c .before .before .before .before .before .before .args .uses .now)) ∙ ap verdictOf (c .before .f .given .1))
 
 returns-4 : tie.Need-returns-4
 unfolding judgeMeasurement
 returns-4 c =
     rw (
-      sym (c .before .before .before .before .before .before .judge-gate .ensures) ∙ ap verdictOf (c .before .before .before .before .enum-told .given .1),
+      sym (c .before .before .before .before .before .before .judge-gate .ensures (c .before .before .before .before .before .before .before .before .before .args .uses .now)) ∙ ap verdictOf (c .before .before .before .before .enum-told .given .1),
       lt-leb _ _ (c .before .before .if1 .left),
-      ne-eqb _ _ (λ e. c .if2 .left (c .before .of-bit .ensures ∙ e)),
+      ne-eqb _ _ (λ e. c .if2 .left (c .before .state-at .ensures ∙ e)),
     )
 
 pub judge-measurement-spec : {M : Type 1} → statement M
@@ -63,7 +63,7 @@ judge-measurement-spec =
     enum-told
     at-fault-requires
     returns
-    of-bit-requires
+    state-at-requires
     at-fault-requires-2
     returns-2
     returns-3

@@ -11,10 +11,10 @@ at-fault-requires c κs = search needs
 
 returns : tie.Need-returns
 unfolding judgeReset
-returns c = c .at-fault .ensures ∙ rw (le-leb _ _ (c .before .if1 .taken))
+returns c = λ bs. c .at-fault .ensures ∙ rw (le-leb _ _ (c .before .if1 .taken))
 
-of-line-requires : tie.Need-of-line-requires
-of-line-requires c κs = search needs
+state-at-requires : tie.Need-state-at-requires
+state-at-requires c κs = search needs
 
 at-fault-requires-2 : tie.Need-at-fault-requires-2
 at-fault-requires-2 c κs = search needs
@@ -22,8 +22,9 @@ at-fault-requires-2 c κs = search needs
 returns-2 : tie.Need-returns-2
 unfolding judgeReset
 returns-2 c =
+    λ bs.
     c .at-fault2 .ensures
-    ∙ rw (lt-leb _ _ (c .before .before .before .if1 .left), eq-eqb _ _ (sym (c .before .before .of-line .ensures) ∙ c .before .if2 .taken))
+    ∙ rw (lt-leb _ _ (c .before .before .before .if1 .left), eq-eqb _ _ (sym (c .before .before .state-at .ensures) ∙ c .before .if2 .taken))
 
 at-fault-requires-3 : tie.Need-at-fault-requires-3
 at-fault-requires-3 c κs = search needs
@@ -31,20 +32,22 @@ at-fault-requires-3 c κs = search needs
 returns-3 : tie.Need-returns-3
 unfolding judgeReset
 returns-3 c =
+    λ bs.
     c .at-fault3 .ensures
     ∙ rw (
       lt-leb _ _ (c .before .before .before .before .if1 .left),
-      ne-eqb _ _ (λ e. c .before .before .if2 .left (c .before .before .before .of-line .ensures ∙ e)),
-      eq-eqb _ _ (sym (c .before .before .before .of-line .ensures) ∙ c .before .if3 .taken),
+      ne-eqb _ _ (λ e. c .before .before .if2 .left (c .before .before .before .state-at .ensures ∙ e)),
+      eq-eqb _ _ (sym (c .before .before .before .state-at .ensures) ∙ c .before .if3 .taken),
     )
 
 returns-4 : tie.Need-returns-4
 unfolding judgeReset
 returns-4 c =
+    λ bs.
     rw (
       lt-leb _ _ (c .before .before .before .if1 .left),
-      ne-eqb _ _ (λ e. c .before .if2 .left (c .before .before .of-line .ensures ∙ e)),
-      ne-eqb _ _ (λ e. c .if3 .left (c .before .before .of-line .ensures ∙ e)),
+      ne-eqb _ _ (λ e. c .before .if2 .left (c .before .before .state-at .ensures ∙ e)),
+      ne-eqb _ _ (λ e. c .if3 .left (c .before .before .state-at .ensures ∙ e)),
     )
 
 pub judge-reset-spec : {M : Type 1} → statement M
@@ -53,7 +56,7 @@ judge-reset-spec =
     (tie.spec
     at-fault-requires
     returns
-    of-line-requires
+    state-at-requires
     at-fault-requires-2
     returns-2
     at-fault-requires-3

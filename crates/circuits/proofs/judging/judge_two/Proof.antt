@@ -11,14 +11,14 @@ at-fault-requires c κs = search needs
 
 returns : tie.Need-returns
 unfolding judgeTwo
-returns c = c .at-fault .ensures ∙ rw (le-leb _ _ (c .before .if1 .taken))
+returns c = λ bs. c .at-fault .ensures ∙ rw (le-leb _ _ (c .before .if1 .taken))
 
 at-fault-requires-2 : tie.Need-at-fault-requires-2
 at-fault-requires-2 c κs = search needs
 
 returns-2 : tie.Need-returns-2
 unfolding judgeTwo
-returns-2 c = c .at-fault2 .ensures ∙ rw (lt-leb _ _ (c .before .before .before .if1 .left), le-leb _ _ (c .before .if2 .taken))
+returns-2 c = λ bs. c .at-fault2 .ensures ∙ rw (lt-leb _ _ (c .before .before .before .if1 .left), le-leb _ _ (c .before .if2 .taken))
 
 at-fault-requires-3 : tie.Need-at-fault-requires-3
 at-fault-requires-3 c κs = search needs
@@ -26,6 +26,7 @@ at-fault-requires-3 c κs = search needs
 returns-3 : tie.Need-returns-3
 unfolding judgeTwo
 returns-3 c =
+    λ bs.
     c .at-fault3 .ensures
     ∙ rw (lt-leb _ _ (c .before .before .before .before .before .before .if1 .left), lt-leb _ _ (c .before .before .before .before .if2 .left), eq-eqb _ _ (c .before .if3 .taken))
 
@@ -44,22 +45,24 @@ judge-live-requires-2 c κs = search needs
 returns-4 : tie.Need-returns-4
 unfolding judgeTwo
 returns-4 c =
+    λ bs.
     rw (
       lt-leb _ _ (c .before .before .before .before .before .before .before .before .before .if1 .left),
       lt-leb _ _ (c .before .before .before .before .before .before .before .if2 .left),
       ne-eqb _ _ (c .before .before .before .before .if3 .left),
-      sym (c .before .before .before .judge-live .ensures) ∙ ap verdictOf (c .before .f .given .1),
+      sym (c .before .before .before .judge-live .ensures bs) ∙ ap verdictOf (c .before .f .given .1),
     )
 
 returns-5 : tie.Need-returns-5
 unfolding judgeTwo
 returns-5 c =
-    c .judge-live2 .ensures
+    λ bs.
+    c .judge-live2 .ensures bs
     ∙ rw (
       lt-leb _ _ (c .before .before .before .before .before .before .before .before .before .if1 .left),
       lt-leb _ _ (c .before .before .before .before .before .before .before .if2 .left),
       ne-eqb _ _ (c .before .before .before .before .if3 .left),
-      sym (c .before .before .before .judge-live .ensures) ∙ ap verdictOf (c .before .enum-told .given .1),
+      sym (c .before .before .before .judge-live .ensures bs) ∙ ap verdictOf (c .before .enum-told .given .1),
     )
 
 pub judge-two-spec : {M : Type 1} → statement M

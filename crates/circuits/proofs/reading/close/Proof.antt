@@ -1,6 +1,5 @@
 -- `circuits::reading::close` meets its contract: its test is the definition's. Assumes nothing.
 use native.Mathlib.Nat.{add-zero}
-use mathlib.Core.Path.{sym}
 use borrow.Author.Tests.{lt-ltb, le-ltb}
 use Rattle.circuits.specs.Reading.{ending}
 use borrow.Author.Needs.{needs}

@@ -11,19 +11,19 @@ use Rattle.circuits.proofs.reading.lowest_unfinished.Statement.{stateme
 use Rattle.circuits.proofs.reading.lowest_unfinished.Tie as tie
 
 abbrev Inv-loop : tie.InvT-loop
-Inv-loop width states i₀ i = (i ≤ width) × (firstUnfinished (width - i) (states .lines) i ≡ firstUnfinished width (states .lines) 0)
+Inv-loop width progress i₀ i = (i ≤ width) × (firstUnfinished (width - i) progress i ≡ firstUnfinished width progress 0)
 
 abbrev μ-loop : tie.MeasureT-loop
-μ-loop width states i₀ i = width - i
+μ-loop width progress i₀ i = width - i
 
 loop-holds : tie.Need-loop-holds Inv-loop μ-loop
 loop-holds c = (omega arith, rw sub-zero)
 
-of-line-requires : tie.Need-of-line-requires Inv-loop μ-loop
-of-line-requires c κs = search needs
+state-at-requires : tie.Need-state-at-requires Inv-loop μ-loop
+state-at-requires c κs = search needs
 
 returns : tie.Need-returns Inv-loop μ-loop
-returns c = sym (unfinished-here _ _ _ (c .before .before .loop-test .taken) (λ e. c .if1 .taken (c .before .of-line .ensures ∙ e))) ∙ c .before .before .before .loop .inv .1
+returns c = sym (unfinished-here _ _ _ (c .before .before .loop-test .taken) (λ e. c .if1 .taken (c .before .state-at .ensures ∙ e))) ∙ c .before .before .before .loop .inv .1
 
 add-i : tie.Need-add-i Inv-loop μ-loop
 add-i c = search needs
@@ -32,7 +32,7 @@ loop-less : tie.Need-loop-less Inv-loop μ-loop
 loop-less c = search needs
 
 loop-again : tie.Need-loop-again Inv-loop μ-loop
-loop-again c = (omega arith, sym (unfinished-on _ _ _ (c .before .before .loop-test .taken) (sym (c .before .of-line .ensures) ∙ c .if1 .left)) ∙ c .before .before .before .loop .inv .1)
+loop-again c = (omega arith, sym (unfinished-on _ _ _ (c .before .before .loop-test .taken) (sym (c .before .state-at .ensures) ∙ c .if1 .left)) ∙ c .before .before .before .loop .inv .1)
 
 returns-2 : tie.Need-returns-2 Inv-loop μ-loop
 returns-2 c = sym (unfinished-none _ _ _ (c .loop-test .left)) ∙ c .before .loop .inv .1
@@ -44,7 +44,7 @@ lowest-unfinished-spec =
     Inv-loop
     μ-loop
     loop-holds
-    of-line-requires
+    state-at-requires
     returns
     add-i
     loop-less

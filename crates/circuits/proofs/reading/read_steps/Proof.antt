@@ -1,75 +1,93 @@
 -- `circuits::reading::read_steps` meets its contract. The loop's invariant: what is read from here on, with the instructions
 -- counted so far, is what is read from the start. Assumes nothing.
-use Prim.Native.Nat.{ℕ, _+_, _-_, _≤_, _<_}
-use mathlib.Core.Path.{_≡_, refl, sym, ap, _∙_}
+use Prim.Native.Nat.{ℕ, _-_, _≤_}
+use mathlib.Core.Path.{_≡_, sym, ap, _∙_}
+use mathlib.Core.List.{List}
 use native.Mathlib.Omega.{arith}
+use lib.ListN.{length}
 use borrow.Author.Needs.{needs}
-use Rattle.circuits.specs.Limits.{mostInstructions, headerLength}
-use Rattle.circuits.specs.Judging.{freshStates}
-use Rattle.circuits.specs.Stepping.{foundOf}
+use Rattle.circuits.specs.Limits.{mostWires, mostInstructions, headerLength}
+use Rattle.circuits.specs.Judging.{statesOf, freshStates}
 use Rattle.circuits.specs.Reading.{readFrom, counted}
-use Rattle.circuits.proofs.Turns.{passed-left, counts-on, reads-end, reads-refused}
+use Rattle.circuits.specs.declared.states.States.{States}
+use Rattle.circuits.proofs.Takes.{turn, counts-on}
 use Rattle.circuits.proofs.reading.read_steps.Statement.{statement}
 use Rattle.circuits.proofs.reading.read_steps.Tie as tie
 
 abbrev Inv-loop : tie.InvT-loop
-Inv-loop s width states₀ at₀ left₀ states at left =
+Inv-loop s width progress₀ uses₀ at₀ left₀ progress uses at left =
     (left ≤ mostInstructions)
-    × (counted width (mostInstructions - left) (readFrom left s width states at) ≡ counted width 0 (readFrom mostInstructions s width freshStates headerLength))
+    × (length progress ≡ mostWires)
+    × (length uses ≡ mostWires)
+    × (counted width (mostInstructions - left) (readFrom left s width (statesOf progress uses) at) ≡ counted width 0 (readFrom mostInstructions s width freshStates headerLength))
 
 abbrev μ-loop : tie.MeasureT-loop
-μ-loop s width states₀ at₀ left₀ states at left = left
+μ-loop s width progress₀ uses₀ at₀ left₀ progress uses at left = left
 
 fresh-requires : tie.Need-fresh-requires Inv-loop μ-loop
 fresh-requires c κs = search needs
 
 loop-holds : tie.Need-loop-holds Inv-loop μ-loop
-loop-holds c = (omega arith, rw (c .fresh .ensures))
+loop-holds c =
+    let start = c .before .before .fresh .ensures in
+    (omega arith, rw start, rw start, rw start)
 
-checked-step-requires : tie.Need-checked-step-requires Inv-loop μ-loop
-checked-step-requires c κs = search needs
+slice-aggregate-take-step : tie.Need-slice-aggregate-take-step Inv-loop μ-loop
+slice-aggregate-take-step c = search needs
+
+slice-aggregate-take-step-2 : tie.Need-slice-aggregate-take-step-2 Inv-loop μ-loop
+slice-aggregate-take-step-2 c = search needs
+
+take-step-requires : tie.Need-take-step-requires Inv-loop μ-loop
+take-step-requires c κs = search needs
 
 enum-told : tie.Need-enum-told Inv-loop μ-loop
 enum-told c = search needs
 
+slice-aggregate-close : tie.Need-slice-aggregate-close Inv-loop μ-loop
+slice-aggregate-close c = search needs
+
 sub-close : tie.Need-sub-close Inv-loop μ-loop
-sub-close c = c .before .before .before .loop .inv .0
+sub-close c = search needs
 
 close-requires : tie.Need-close-requires Inv-loop μ-loop
 close-requires c κs = search needs
 
 returns : tie.Need-returns Inv-loop μ-loop
 returns c =
+    let took = c .before .before .before .before .before .before in
     c .close .ensures
-    ∙ ap (counted _ _) (sym (reads-end _ _ _ _ _ (sym (c .before .before .before .checked-step .ensures) ∙ ap foundOf (c .before .enum-told .given .1))))
-    ∙ c .before .before .before .before .loop .inv .1
+    ∙ ap (counted _ _) (sym (turn _ _ _ _ _ _ _ (c .before .before .enum-told .given .1) (took .take-step .ensures)))
+    ∙ took .before .before .before .loop .inv .3
 
 enum-known-r : tie.Need-enum-known-r Inv-loop μ-loop
 enum-known-r c = search needs
 
 returns-2 : tie.Need-returns-2 Inv-loop μ-loop
 returns-2 c =
-    ap (counted _ _) (sym (reads-refused _ _ _ _ _ (sym (c .before .before .before .checked-step .ensures) ∙ ap foundOf (c .before .r .given .1))))
-    ∙ c .before .before .before .before .loop .inv .1
+    let took = c .before .before .before .before .before in
+    ap (counted _ _) (sym (turn _ _ _ _ _ _ _ (c .before .r .given .1) (took .take-step .ensures)))
+    ∙ took .before .before .before .loop .inv .3
 
-enum-known-instruction : tie.Need-enum-known-instruction Inv-loop μ-loop
-enum-known-instruction c = search needs
-
-advance-requires : tie.Need-advance-requires Inv-loop μ-loop
-advance-requires c κs = search needs
+enum-known-next : tie.Need-enum-known-next Inv-loop μ-loop
+enum-known-next c = search needs
 
 sub-left : tie.Need-sub-left Inv-loop μ-loop
-sub-left c = passed-left _ _ _ _ _ (sym (c .before .before .before .before .checked-step .ensures) ∙ ap foundOf (c .before .before .instruction .given .1))
+sub-left c = turn _ _ _ _ _ _ _ (c .before .next .given .1) (c .before .before .before .before .before .take-step .ensures) .allowed
 
 loop-less : tie.Need-loop-less Inv-loop μ-loop
-loop-less c = omega (arith, passed-left _ _ _ _ _ (sym (c .before .before .before .before .checked-step .ensures) ∙ ap foundOf (c .before .before .instruction .given .1)))
+loop-less c = omega (arith, turn _ _ _ _ _ _ _ (c .before .next .given .1) (c .before .before .before .before .before .take-step .ensures) .allowed)
 
 loop-again : tie.Need-loop-again Inv-loop μ-loop
-loop-again c = (
-  omega (arith, c .before .before .before .before .before .loop .inv .0),
-  rw (c .advance .ensures)
-      (sym (counts-on _ _ _ _ _ (sym (c .before .before .before .before .checked-step .ensures) ∙ ap foundOf (c .before .before .instruction .given .1)) mostInstructions (c .before .before .before .before .before .loop .inv .0)) ∙ c .before .before .before .before .before .loop .inv .1),
-)
+loop-again c =
+    let took = c .before .before .before .before .before in
+    let inv = took .before .before .before .loop .inv in
+    let taken = turn _ _ _ _ _ _ _ (c .before .next .given .1) (took .take-step .ensures) in (
+      omega (arith, inv .0),
+      took .take-step .kept .1 .1 .1 .1 .0 ∙ inv .1,
+      took .take-step .kept .1 .1 .1 .1 .1 .0 ∙ inv .2,
+      sym (counts-on _ _ _ _ _ _ mostInstructions (inv .0) taken) ∙ inv .3,
+    )
 
 pub read-steps-spec : {M : Type 1} → statement M
 read-steps-spec =
@@ -79,15 +97,17 @@ read-steps-spec =
     μ-loop
     fresh-requires
     loop-holds
-    checked-step-requires
+    slice-aggregate-take-step
+    slice-aggregate-take-step-2
+    take-step-requires
     enum-told
+    slice-aggregate-close
     sub-close
     close-requires
     returns
     enum-known-r
     returns-2
-    enum-known-instruction
-    advance-requires
+    enum-known-next
     sub-left
     loop-less
     loop-again)
