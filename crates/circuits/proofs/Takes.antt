@@ -5,14 +5,18 @@ use mathlib.Core.Path.{_≡_, sym, ap, _∙_}
 use mathlib.Core.List.{List}
 use native.Mathlib.Omega.{arith}
 use Rattle.basics.specs.Outcome.{Outcome, done, refused}
+use Rattle.records.specs.declared.answers.Refusal.{Refusal}
 use Rattle.records.specs.declared.instructions.Instruction.{Instruction}
-use Rattle.circuits.specs.Judging.{passed, fault, placeOf, judgeOf}
+use Rattle.circuits.specs.Judging.{verdictOf, placeOf, judgeOf}
 use Rattle.circuits.specs.Stepping.{Next, step, end, stepAt}
 use Rattle.circuits.specs.Sketching.{Sight, sketchOf, sketched, over, glimpsed, inSketch, judgeSketch, advanceSketch}
 use Rattle.circuits.specs.Reading.{checkedAt, statesAfter, ending, before, readFrom, counted}
 use Rattle.circuits.specs.declared.sketching.Sketch.{Sketch}
 use Rattle.circuits.specs.declared.sketching.Glimpse.{Glimpse}
 use Rattle.circuits.specs.declared.sketching.Glimpse.the-variants as glimpse
+use Rattle.circuits.specs.declared.judging.Fault.{Fault}
+use Rattle.circuits.specs.declared.judging.Verdict.{Verdict}
+use Rattle.circuits.specs.declared.judging.Verdict.the-variants as verdict
 use Rattle.circuits.specs.declared.states.States.{States}
 use Rattle.circuits.proofs.Turns.{checked-step, step-checked, passed-left, reads-on, reads-end, reads-refused, counted-before}
 use Rattle.circuits.proofs.Sketches.{judges-sketch, advances-sketch, Drawn, drawn, drawn-end, drawn-refused}
@@ -22,31 +26,33 @@ module _ (s : List ℕ) (at left width : ℕ) (c : States) where
   abbrev pub Told : Outcome Sight → States → Type 0
   Told o after = (o ≡ inSketch (checkedAt s at left width c)) × (after ≡ statesAfter c (checkedAt s at left width c))
 
-  pub told-end : inSketch (stepAt s at left) ≡ done over → Told (done over) c
-  unfolding checkedAt
-  told-end e = let z = drawn-end (stepAt s at left) e in (rw z, rw z)
-
-  pub told-refused : {n p : ℕ} → inSketch (stepAt s at left) ≡ refused n p → Told (refused n p) c
-  unfolding checkedAt
-  told-refused e = let z = drawn-refused (stepAt s at left) e in (rw z, rw z)
-
-  module _ {k : Sketch} {next : ℕ} (seen : inSketch (stepAt s at left) ≡ done (sketched k next)) where
-    d : Drawn (stepAt s at left) k next
-    d = drawn (stepAt s at left) seen
-
-    verdict-like : judgeOf width width c (d .instruction) ≡ judgeSketch width width c k
-    verdict-like = judges-sketch width width c (d .instruction) ∙ ap (judgeSketch width width c) (d .like)
-
-    pub told-fault : {n o : ℕ} → judgeSketch width width c k ≡ fault n o → Told (refused n (placeOf at n o)) c
+  -- by what was seen, and where it is a sketch by the verdict on it
+  module _ {g : Glimpse} (seen : glimpsed g ≡ inSketch (stepAt s at left)) where
+    pub told-end : g ≡ glimpse.End → Told (done over) c
     unfolding checkedAt
-    told-fault v = let z = verdict-like ∙ v in (rw (d .stands, z), rw (d .stands, z))
+    told-end e = let z = drawn-end (stepAt s at left) (sym seen ∙ ap glimpsed e) in (rw z, rw z)
 
-    pub told-passed : judgeSketch width width c k ≡ passed → Told (done (sketched k next)) (advanceSketch c k)
-    told-passed v =
-        let z = step-checked s at left width c (d .stands) (verdict-like ∙ v) in (
-          ap (λ (j : Sketch). done (sketched j next)) (sym (d .like)) ∙ ap inSketch (sym z),
-          ap (advanceSketch c) (sym (d .like)) ∙ sym (advances-sketch c (d .instruction)) ∙ ap (statesAfter c) (sym z),
-        )
+    pub told-refused : {r : Refusal} → g ≡ glimpse.Refused r → Told (refused (r .number) (r .place)) c
+    unfolding checkedAt
+    told-refused e = let z = drawn-refused (stepAt s at left) (sym seen ∙ ap glimpsed e) in (rw z, rw z)
+
+    module _ {k : Sketch} {next : ℕ} (e : g ≡ glimpse.Step k next) (v : Verdict) (judged : verdictOf v ≡ judgeSketch width width c k) where
+      d : Drawn (stepAt s at left) k next
+      d = drawn (stepAt s at left) (sym seen ∙ ap glimpsed e)
+
+      like : judgeOf width width c (d .instruction) ≡ verdictOf v
+      like = judges-sketch width width c (d .instruction) ∙ ap (judgeSketch width width c) (d .like) ∙ sym judged
+
+      pub told-fault : {f : Fault} → v ≡ verdict.Fault f → Told (refused (f .number) (placeOf at (f .number) (f .operand))) c
+      unfolding checkedAt
+      told-fault h = let z = like ∙ ap verdictOf h in (rw (d .stands, z), rw (d .stands, z))
+
+      pub told-passed : v ≡ verdict.Passed → Told (done (sketched k next)) (advanceSketch c k)
+      told-passed h =
+          let z = step-checked s at left width c (d .stands) (like ∙ ap verdictOf h) in (
+            ap (λ (j : Sketch). done (sketched j next)) (sym (d .like)) ∙ ap inSketch (sym z),
+            ap (advanceSketch c) (sym (d .like)) ∙ sym (advances-sketch c (d .instruction)) ∙ ap (statesAfter c) (sym z),
+          )
 
   module _ (after : States) where
     -- a step that passed: its instruction stands there and has that sketch, and the reading goes on behind it in the states left

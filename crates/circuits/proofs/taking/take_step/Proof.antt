@@ -1,8 +1,5 @@
 -- `circuits::taking::take_step` meets its contract: the next step in sketch, and the verdict on it. Assumes nothing.
 use Rattle.circuits.proofs.Takes.{told-end, told-refused, told-fault, told-passed}
-use mathlib.Core.Path.{sym, ap, _∙_}
-use Rattle.circuits.specs.Judging.{verdictOf}
-use Rattle.circuits.specs.Sketching.{glimpsed}
 use borrow.Author.Needs.{needs}
 use Rattle.circuits.proofs.taking.take_step.Statement.{statement}
 use Rattle.circuits.proofs.taking.take_step.Tie as tie
@@ -35,10 +32,10 @@ advance-requires : tie.Need-advance-requires
 advance-requires c κs = search needs
 
 returns : tie.Need-returns
-returns c = told-end _ _ _ _ _ (sym (c .before .before .sketch-at .ensures) ∙ ap glimpsed (c .enum-told .given .1))
+returns c = told-end _ _ _ _ _ (c .before .before .sketch-at .ensures) (c .enum-told .given .1)
 
 returns-2 : tie.Need-returns-2
-returns-2 c = told-refused _ _ _ _ _ (sym (c .before .before .before .sketch-at .ensures) ∙ ap glimpsed (c .before .seen .given .1))
+returns-2 c = told-refused _ _ _ _ _ (c .before .before .before .sketch-at .ensures) (c .before .seen .given .1)
 
 same-length : tie.Need-same-length
 same-length c = search needs
@@ -49,10 +46,9 @@ same-length-2 c = search needs
 returns-3 : tie.Need-returns-3
 returns-3 c =
     let judged = c .before .before .before .before in
+    let seen = judged .before .before .before .before in
     rw (c .place-of .ensures)
-    (told-fault _ _ _ _ _
-    (sym (judged .before .before .before .before .before .before .sketch-at .ensures) ∙ ap glimpsed (judged .before .before .before .before .seen2 .given .1))
-    (sym (judged .judge .ensures) ∙ ap verdictOf (c .before .before .f .given .1)))
+    (told-fault _ _ _ _ _ (seen .before .before .sketch-at .ensures) (seen .seen2 .given .1) _ (judged .judge .ensures) (c .before .before .f .given .1))
 
 same-length-3 : tie.Need-same-length-3
 same-length-3 c = search needs
@@ -62,11 +58,11 @@ same-length-4 c = search needs
 
 returns-4 : tie.Need-returns-4
 returns-4 c =
-    let judged = c .before .before .before .before .before .before .before .before .before in
+    let passed = c .before .before .before .before .before .before .before in
+    let judged = passed .before .before in
+    let seen = judged .before .before .before .before in
     rw (c .before .before .before .before .advance .ensures)
-    (told-passed _ _ _ _ _
-    (sym (judged .before .before .before .before .before .before .sketch-at .ensures) ∙ ap glimpsed (judged .before .before .before .before .seen2 .given .1))
-    (sym (judged .judge .ensures) ∙ ap verdictOf (c .before .before .before .before .before .before .before .enum-told2 .given .1)))
+    (told-passed _ _ _ _ _ (seen .before .before .sketch-at .ensures) (seen .seen2 .given .1) _ (judged .judge .ensures) (passed .enum-told2 .given .1))
 
 pub take-step-spec : {M : Type 1} → statement M
 take-step-spec =
