@@ -8,7 +8,7 @@ use Rattle.basics.specs.Outcome.{Outcome, done, refused}
 use Rattle.records.specs.declared.answers.Refusal.{Refusal}
 use Rattle.records.specs.declared.instructions.Instruction.{Instruction}
 use Rattle.circuits.specs.Judging.{verdictOf, placeOf, judgeOf}
-use Rattle.circuits.specs.Stepping.{Next, step, end, stepAt}
+use Rattle.circuits.specs.Stepping.{step, stepAt}
 use Rattle.circuits.specs.Sketching.{Sight, sketchOf, sketched, over, glimpsed, inSketch, judgeSketch, advanceSketch}
 use Rattle.circuits.specs.Reading.{checkedAt, statesAfter, ending, before, readFrom, counted}
 use Rattle.circuits.specs.declared.sketching.Sketch.{Sketch}

@@ -6,7 +6,7 @@ use Rattle.records.proofs.Unique.{refusal-one}
 use Rattle.circuits.specs.Judging.{verdictOf}
 use Rattle.circuits.specs.Stepping.{foundOf}
 use Rattle.circuits.specs.Sketching.{glimpsed}
-use Rattle.circuits.specs.Reading.{readingOf}
+use Rattle.circuits.specs.Reading.{headerRead, readingOf}
 use Rattle.circuits.specs.Rewriting.{rewritingOf}
 use Rattle.circuits.specs.declared.judging.Fault.{Fault}
 use Rattle.circuits.specs.declared.judging.Verdict.{Verdict}
@@ -15,6 +15,8 @@ use Rattle.circuits.specs.declared.stepping.Found.{Found}
 use Rattle.circuits.specs.declared.stepping.Found.the-variants as found
 use Rattle.circuits.specs.declared.sketching.Glimpse.{Glimpse}
 use Rattle.circuits.specs.declared.sketching.Glimpse.the-variants as glimpse
+use Rattle.circuits.specs.declared.reading.Header.{Header}
+use Rattle.circuits.specs.declared.reading.Header.the-variants as header
 use Rattle.circuits.specs.declared.reading.Reading.{Reading}
 use Rattle.circuits.specs.declared.reading.Reading.the-variants as reading
 use Rattle.circuits.specs.declared.rewriting.Rewriting.{Rewriting}
@@ -50,6 +52,12 @@ glimpse-one (glimpse.Refused r) (glimpse.Step l n) e = cc
 glimpse-one (glimpse.Refused r) glimpse.End e = cc
 glimpse-one glimpse.End (glimpse.Step l n) e = cc
 glimpse-one glimpse.End (glimpse.Refused q) e = cc
+
+pub header-one : (a b : Header) → headerRead a ≡ headerRead b → a ≡ b
+header-one (header.Width m) (header.Width n) e = cc
+header-one (header.Refused r) (header.Refused q) e = ap (λ (x : Refusal). header.Refused x) (refusal-one e)
+header-one (header.Width m) (header.Refused q) e = cc
+header-one (header.Refused r) (header.Width n) e = cc
 
 pub reading-one : (a b : Reading) → readingOf a ≡ readingOf b → a ≡ b
 reading-one (reading.Valid c) (reading.Valid d) e = cc

@@ -1,4 +1,5 @@
-// What the lines and the bits of a circuit have been through, from its start up to some instruction.
+// What the lines and the bits of a circuit have been through, from its start up to some instruction. The calls are lent the two
+// lists of states as slices: a struct of both would be copied at every call.
 use crate::circuit::Circuit;
 ghost use mathlib.Core.Path.{_≡_};
 ghost use lib.ListN.{getD, set};

@@ -1,4 +1,5 @@
-// The next instruction of a static circuit. Reader, start pass, rewrite and writer all go by `step_at`.
+// The next instruction of a static circuit, whole. Start pass, rewrite and writer go by `step_at`; the reader goes by
+// its sketch.
 use records::Answer;
 use records::Instruction;
 use records::Outline;

@@ -1,15 +1,13 @@
 -- `circuits::reading::read_steps` meets its contract. The loop's invariant: what is read from here on, with the instructions
 -- counted so far, is what is read from the start. Assumes nothing.
-use Prim.Native.Nat.{ℕ, _-_, _≤_}
+use Prim.Native.Nat.{_-_, _≤_}
 use mathlib.Core.Path.{_≡_, sym, ap, _∙_}
-use mathlib.Core.List.{List}
 use native.Mathlib.Omega.{arith}
 use lib.ListN.{length}
 use borrow.Author.Needs.{needs}
 use Rattle.circuits.specs.Limits.{mostWires, mostInstructions, headerLength}
 use Rattle.circuits.specs.Judging.{statesOf, freshStates}
 use Rattle.circuits.specs.Reading.{readFrom, counted}
-use Rattle.circuits.specs.declared.states.States.{States}
 use Rattle.circuits.proofs.Takes.{turn, counts-on}
 use Rattle.circuits.proofs.reading.read_steps.Statement.{statement}
 use Rattle.circuits.proofs.reading.read_steps.Tie as tie
