@@ -1,7 +1,7 @@
 -- Rounds over any rule of choice end: on any table, since each accepted pair strikes a yes and makes none; on a table grown from a circuit
 -- after at most width - 1 rounds, since allowed pairs are fewer than the wires, and then no pair can be added. Assumes nothing.
 use Prim.Native.Nat.{ℕ, zero, suc, _-_, _≤_, _<_}
-use mathlib.Core.Path.{_≡_, refl, sym, _∙_, ap, subst}
+use mathlib.Core.Path.{_≡_, refl, ap, subst}
 use mathlib.Core.Logic.{_⊎_, inl, inr}
 use mathlib.Core.Bool.{Bool, true, false}
 use mathlib.Core.Option.{Option, none, some}
@@ -57,21 +57,6 @@ module _ (w : ℕ) (choose : Chooser) (rule : Chooses w choose) (Inv : State →
   rounds-ended (suc k) s h b = elim (chosen s h) [
     | inl c ↦ rw (rounds-none choose (suc k) s (c .0)) (h, c .1)
     | inr (p, e, m) ↦ (let f = falls p s h m in rw (rounds-some choose k s p e m) (rounds-ended k (accepted p s) (f .0) (omega arith)))
-  ]
-
-  -- and further rounds change nothing
-  pub rounds-settled : (k more : ℕ) (s : State) → Inv s → measure s ≤ k → k ≤ more → rounds choose more s ≡ rounds choose k s
-  rounds-settled zero more s h b le = elim (chosen s h) [
-    | inl c ↦ rounds-none choose more s (c .0) ∙ sym (rounds-none choose zero s (c .0))
-    | inr (p, e, m) ↦ absurd (not-both _ m (at-bottom s h b (p .0) (p .1)))
-  ]
-  rounds-settled (suc k) zero s h b le = absurd (omega arith)
-  rounds-settled (suc k) (suc more) s h b le = elim (chosen s h) [
-    | inl c ↦ rounds-none choose (suc more) s (c .0) ∙ sym (rounds-none choose (suc k) s (c .0))
-    | inr (p, e, m) ↦ (
-        let f = falls p s h m in
-        rounds-some choose more s p e m ∙ rounds-settled k more (accepted p s) (f .0) (omega arith) (omega arith) ∙ sym (rounds-some choose k s p e m)
-        )
   ]
 
 -- ## The yes marks fall
@@ -130,12 +115,6 @@ module _ (w : ℕ) (choose : Chooser) (rule : Chooses w choose) where
   unfolding yes
   rounds-end s h k b = rounds-ended w choose rule (λ s. Within w (s .table)) yes (λ s h. h) count-falls k s h b .1
 
-  -- THEOREM: and further rounds change nothing.
-  pub rounds-stay : (s : State) → Within w (s .table) → (k : ℕ) → yesCount w (s .table) ≤ k
-      → rounds choose k s ≡ rounds choose (yesCount w (s .table)) s
-  unfolding yes
-  rounds-stay s h k b = rounds-settled w choose rule (λ s. Within w (s .table)) yes (λ s h. h) count-falls (yes s) k s h (omega arith) b
-
 -- ## On a table grown from a circuit
 
 module _ (C : Circuit) (law : Lawful C) (choose : Chooser) (rule : Chooses (C .width) choose) where
@@ -165,12 +144,6 @@ module _ (C : Circuit) (law : Lawful C) (choose : Chooser) (rule : Chooses (C .w
         maximal = record { allowed = r .0 .allowed; no-more = λ l t a. not-both _ (exact-allowed C law _ _ (r .0) l t .1 a) (r .1 l t) };
         few = allowed-few C law _ (r .0 .allowed);
       }
-
-  -- THEOREM: and further rounds change nothing.
-  pub rounds-grown-stay : (s : State) → Grown C s → (k : ℕ) → C .width - 1 ≤ k → rounds choose k s ≡ rounds choose (C .width - 1) s
-  unfolding left
-  rounds-grown-stay s h k b =
-      rounds-settled (C .width) choose rule (Grown C) left narrow left-falls (C .width - 1) k s h (omega arith) b
 
   -- THEOREM: from the start table, width - 1 rounds choose a list to which no pair can be added.
   pub rounds-start : (T : Table) → Start C T → Ended C (rounds choose (C .width - 1) (fresh T))
