@@ -1,13 +1,12 @@
--- The lines of some records, of a refusal, of a listing and of what was compiled, computed. Assumes nothing.
+-- The lines of some records, of a refusal and of what was compiled, computed. Assumes nothing.
 use mathlib.Core.Path.{_≡_, refl}
-use mathlib.Core.List.{_++_}
 use Rattle.writing.specs.Texts.{text}
 use Rattle.writing.specs.Decimals.{decimal}
 use Rattle.records.specs.Records.{line, wire, bit}
 use Rattle.records.specs.declared.instructions.Record.the-variants.{StaticWidth, DynamicWidth, Step, Reuse}
 use Rattle.records.specs.declared.instructions.Instruction.the-variants.{Reset, Measurement, Gate, TwoLineGate}
 use Rattle.texts.specs.Lines.{lineOf, refusalLine}
-use Rattle.texts.specs.Listings.{countsLine, summaryLine, compiledLine, pairLine}
+use Rattle.texts.specs.Listings.{countsLine, compiledLine}
 
 pub worked-lines : (lineOf 0 (StaticWidth 3) ≡ text "0 static width 3\n")
     × (lineOf 0 (DynamicWidth 2 3) ≡ text "0 dynamic width 2 3\n")
@@ -19,11 +18,6 @@ pub worked-lines : (lineOf 0 (StaticWidth 3) ≡ text "0 static width 3\n")
     × (refusalLine 31 100 ≡ text "refused 31 at 100\n")
 unfolding lineOf refusalLine decimal
 worked-lines = (refl, refl, refl, refl, refl, refl, refl, refl)
-
--- document 01's listing of A
-pub worked-listing : summaryLine 3 1 1 ++ pairLine 0 2 ≡ text "wires 3 qubits 2 pairs 1 trials 1\n0 lends to 2\n"
-unfolding countsLine pairLine decimal
-worked-listing = refl
 
 -- P1
 pub worked-compiled : compiledLine 3 2 1 24 ≡ text "wires 3 qubits 2 pairs 1 bytes 24\n"
