@@ -4,13 +4,11 @@ use mathlib.Core.Bool.{Bool, true, false}
 use mathlib.Core.Path.{_≡_, refl, ap, subst, _∙_}
 use mathlib.Core.List.{List}
 use native.Mathlib.Omega.{arith}
-use lib.Dec.{ltb}
 use lib.ListN.{length}
 use Rattle.basics.specs.Choice.{pick}
 use Rattle.basics.specs.Outcome.{Outcome, done, refused, handing}
 use Rattle.bits.specs.Bits.{bit}
 use Rattle.bits.proofs.Sums.{tallies-le}
-use Rattle.writing.specs.Writing.{fitted, sized}
 use Rattle.circuits.specs.Reading.{Static, readCircuit}
 use Rattle.circuits.proofs.Refusals.{refused-circuit}
 use Rattle.table.specs.Limits.{mostWires, tableLength}
@@ -107,13 +105,3 @@ module _ (t : Table) (many : length (t .rows) ≡ mostWires) (room : ℕ) where
 
   pub room-for : tableLength ≤ room → tableWritten room (done t) ≡ done (tableBytes t)
   room-for h = let size = length-tableBytes t many in fitted-done room (tableBytes t) (omega arith)
-
--- so what start and offer tell fits
-pub table-fits : (room : ℕ) (o : Outcome Table) → Sound o → ((t : Table) → o ≡ done t → length (tableBytes t) < placesEnd) → Fits (sized (tableWritten room o))
-unfolding fitted
-table-fits room (refused n p) h size = h
-table-fits room (done t) h size = go (ltb room (length (tableBytes t)))
-  where
-    go : (b : Bool) → Fits (sized (pick b (refused 31 (length (tableBytes t))) (done (tableBytes t))))
-    go true = (omega arith, size t refl)
-    go false = size t refl

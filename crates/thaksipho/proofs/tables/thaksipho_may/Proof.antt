@@ -1,7 +1,6 @@
 -- `thaksipho::tables::thaksipho_may` meets its contract. Assumes nothing.
-use Prim.Native.Nat.{ℕ}
 use mathlib.Core.Bool.{Bool}
-use mathlib.Core.Path.{_≡_, sym, ap, _∙_}
+use mathlib.Core.Path.{sym, ap, _∙_}
 use Rattle.basics.specs.Outcome.{Outcome}
 use Rattle.table.specs.Calls.{permitted, mayLend}
 use Rattle.table.specs.declared.tables.Table.{Table}
