@@ -6,4 +6,3 @@ pub mod Underway
 pub mod Settling
 pub mod HandedLists
 pub mod Endings
-pub mod WorkedB
