@@ -8,13 +8,17 @@ use samples::document::{A, B, OF_P11, OF_P6};
 use samples::pairs::{any_pair, every_pair};
 use samples::records::reuse_pair;
 use samples::Random;
-use thaksipho::{compile, greedy, start, Refusal};
+use second::{Accepted, Pair};
+use thaksipho::{compile, Refusal};
 
-const COUNT: u64 = 50_000;
+const COUNT: u64 = 60_000;
 const SEED: u64 = 96;
 
 /// How much longer than the output the lent buffer is, so that bytes past the output are seen.
 const SPARE_ROOM: usize = 3;
+
+/// How many takers are tried for a lender of a good list.
+const TAKERS_TRIED: usize = 4;
 
 /// Holds the compiler against the second program on one circuit and list, with more room than
 /// needed, just as much and one byte too little, and notes the answers.
@@ -98,20 +102,33 @@ fn every_list_of_up_to_two_pairs_over_small_circuits() {
     assert_eq!(seen.numbers(), [20, 21, 22, 23, 31]);
 }
 
-/// Mostly pairs that are right one after another, then now and then any pair or a damaged record.
+/// Pairs that the second program takes one after another: some of the wires lend, in any order, each to
+/// the first of a few others that may take.
+fn good_pairs(random: &mut Random, circuit: &[u8]) -> Vec<(u8, u8)> {
+    let Ok(circuit) = second::read(circuit) else {
+        return Vec::new();
+    };
+    let mut accepted = Accepted::none(&circuit);
+    let mut lenders: Vec<u8> = (0..circuit.width).collect();
+    random.shuffle(&mut lenders);
+    lenders.truncate(random.below(lenders.len() + 1));
+    for lender in lenders {
+        let mut takers = (0..TAKERS_TRIED).map(|_| random.below(circuit.width.into()) as u8);
+        takers.any(|taker| accepted.offer(Pair::of(lender, taker)).is_ok());
+    }
+    let numbers = |pair: &Pair| (pair.lender.0, pair.taker.0);
+    accepted.pairs().iter().map(numbers).collect()
+}
+
+/// Good pairs, half of the time with any pairs behind them, and now and then cut or damaged.
 fn any_list(random: &mut Random, circuit: &[u8]) -> Vec<u8> {
     let width = circuit.get(1).copied().unwrap_or(1);
-    let mut list = match start(circuit).and_then(|table| greedy(&table)) {
-        Ok(chosen) if !random.once_in(3) => {
-            let keep = random.below(chosen.pairs.len() + 1);
-            let numbers = chosen.pairs.iter().map(|p| (p.lender.0, p.taker.0));
-            list_of(&numbers.take(keep).collect::<Vec<_>>())
+    let mut list = list_of(&good_pairs(random, circuit));
+    if random.once_in(2) {
+        for _ in 0..=random.below(2) {
+            let (lender, taker) = any_pair(random, width);
+            list.extend(reuse_pair(lender, taker));
         }
-        _ => Vec::new(),
-    };
-    for _ in 0..random.below(3) {
-        let (lender, taker) = any_pair(random, width);
-        list.extend(reuse_pair(lender, taker));
     }
     if random.once_in(8) {
         list.truncate(random.below(list.len() + 1));
@@ -123,20 +140,32 @@ fn any_list(random: &mut Random, circuit: &[u8]) -> Vec<u8> {
     list
 }
 
+/// One circuit in eight is damaged.
+fn any_or_damaged(random: &mut Random, turn: u64) -> Vec<u8> {
+    match turn % 8 {
+        0 => damaged_circuit(random),
+        _ => any_circuit(random),
+    }
+}
+
 #[test]
 fn random_circuits_and_lists() {
     let (count, mut random) = count_and_source(COUNT, SEED);
     let mut seen = Seen::default();
+    let mut lists = [0; MOST_WIRES as usize];
     for turn in 0..count {
-        let circuit = match turn % 8 {
-            0 => damaged_circuit(&mut random),
-            _ => any_circuit(&mut random),
-        };
+        let circuit = any_or_damaged(&mut random, turn);
         let list = any_list(&mut random, &circuit);
-        compare_compiling(&circuit, &list, &mut seen).ok();
+        if compare_compiling(&circuit, &list, &mut seen).is_ok() {
+            lists[list.len() / reuse_pair(0, 0).len()] += 1;
+        }
     }
     println!("{} accepted, {:?} refused", seen.accepted, seen.refused);
+    println!("{lists:?} accepted lists by their lengths");
     assert!(seen.accepted > count / 2);
+    let (short, long) = lists.split_at(usize::from(MOST_WIRES / 2));
+    assert!(short.iter().all(|&times| times > 0));
+    assert!(long.iter().any(|&times| times > 0));
     for number in [20, 21, 22, 23, 24, 25, 31] {
         assert!(seen.refused.contains_key(&number), "no refusal {number}");
     }
@@ -146,8 +175,8 @@ fn random_circuits_and_lists() {
 fn every_room() {
     let (count, mut random) = count_and_source(COUNT / 100, SEED);
     let mut seen = Seen::default();
-    for _ in 0..count {
-        let circuit = any_circuit(&mut random);
+    for turn in 0..count {
+        let circuit = any_or_damaged(&mut random, turn);
         let list = any_list(&mut random, &circuit);
         let expected = second::compile(&circuit, &list).map_err(of_second);
         let context = || format!("{circuit:02x?} with {list:02x?}");
