@@ -36,14 +36,6 @@ least-hit p (suc k) i b = elim (true-or-false (p i)) [
   | inr f ↦ (let q = least-on p k i f in rw q (least-hit p k (suc i) (omega arith)))
 ]
 
-pub least-end : (p : ℕ → Bool) (k i : ℕ) → least p k i ≤ i + k
-unfolding least
-least-end p zero i = omega arith
-least-end p (suc k) i = elim (true-or-false (p i)) [
-  | inl t ↦ omega (arith, least-here p k i t)
-  | inr f ↦ omega (arith, least-on p k i f, least-end p k (suc i))
-]
-
 -- one that passes, and none below it: that one
 pub least-is : (p : ℕ → Bool) (k j : ℕ) → j < k → ((m : ℕ) → m < j → p m ≡ false) → p j ≡ true → least p k 0 ≡ j
 least-is p k j l below t = elim (below-or-not (least p k 0) j) [
