@@ -4,7 +4,7 @@ use Prim.Native.Nat.{ℕ, zero, suc, _≤_, _<_}
 use mathlib.Core.Path.{_≡_, refl, sym, ap, subst}
 use mathlib.Core.Logic.{inl, inr, _≢_}
 use mathlib.Core.Bool.{Bool, true, false, false≢true}
-use mathlib.Core.List.{List, [], _∷_, _++_}
+use mathlib.Core.List.{List, [], _∷_}
 use mathlib.Core.Option.{Option, none, some}
 use native.Mathlib.Omega.{arith}
 use lib.ListN.{length, getElem?}
@@ -86,16 +86,6 @@ pub at-inside : (p : Instruction → Bool) (is : List Instruction) (k : ℕ) →
 at-inside p [] k h = absurd (false≢true h)
 at-inside p (i ∷ is) zero h = omega arith
 at-inside p (i ∷ is) (suc k) h = let r = at-inside p is k h in omega arith
-
--- an index of the front part, and the one behind it
-pub at-front : (p : Instruction → Bool) (front back : List Instruction) (k : ℕ) → at p front k ≡ true → at p (front ++ back) k ≡ true
-at-front p [] back k h = absurd (false≢true h)
-at-front p (i ∷ front) back zero h = h
-at-front p (i ∷ front) back (suc k) h = at-front p front back k h
-
-pub at-seam : (p : Instruction → Bool) (front : List Instruction) (i : Instruction) (back : List Instruction) → at p (front ++ i ∷ back) (length front) ≡ p i
-at-seam p [] i back = refl
-at-seam p (j ∷ front) i back = at-seam p front i back
 
 -- by cases on an index: the first instruction, or one behind it
 at-cases : (p : Instruction → Bool) (i : Instruction) (is : List Instruction) (P : ℕ → Type 0) → (p i ≡ true → P 0)
