@@ -7,6 +7,30 @@
 //!
 //! Where a lent buffer is too short the refusal is 31, and its place is the length needed; it comes
 //! after every other refusal. What is written stands at the buffer's start, and the rest stays.
+//!
+//! ```
+//! use thaksipho::{bytes, Refusal, Table, Wire};
+//!
+//! // B, of document 01: three wires without gates.
+//! let b = [
+//!     0x01, 3, 0x10, 0, 0x10, 1, 0x10, 2, 0x11, 0, 0, 0x11, 1, 1, 0x11, 2, 2,
+//! ];
+//! let mut table = [0; Table::LENGTH];
+//! assert_eq!(bytes::start(&b, &mut table), Ok(Table::LENGTH));
+//! assert_eq!(bytes::may(&table, Wire(0), Wire(1)), Ok(true));
+//! assert_eq!(bytes::count(&table), Ok(6));
+//! assert_eq!(bytes::score(&table, Wire(0), Wire(1)), Ok(2));
+//!
+//! let mut list = [7; 8];
+//! assert_eq!(bytes::greedy(&table, &mut list), Ok(bytes::Chosen { pairs: 2, trials: 8 }));
+//! assert_eq!(list, [0x60, 0, 1, 0x60, 1, 2, 7, 7]);
+//!
+//! // Room one byte short: nothing is written.
+//! let mut after = [7; Table::LENGTH - 1];
+//! let refused = Refusal { number: 31, place: 137 };
+//! assert_eq!(bytes::offer(&table, Wire(0), Wire(1), &mut after), Err(refused));
+//! assert_eq!(after, [7; Table::LENGTH - 1]);
+//! ```
 
 use crate::{boundary, outcome, Refusal, Wire};
 

@@ -22,6 +22,19 @@ impl Table {
     pub const LENGTH: usize = 1 + (Table::MOST_WIRES + 2) * Table::ROW_LENGTH;
 
     /// The table with these bytes. Missing ones count as 0, and further ones are not read.
+    ///
+    /// ```
+    /// use thaksipho::{may, Refusal, Table, Wire};
+    ///
+    /// // Two wires, and one mark: wire 0 may lend to wire 1.
+    /// let table = Table::from_bytes(&[2, 0b10]);
+    /// assert_eq!(table.width(), 2);
+    /// assert_eq!(may(&table, Wire(0), Wire(1)), Ok(true));
+    /// assert_eq!(Table::from_bytes(table.as_bytes()), table);
+    /// // A table without bytes has width 0.
+    /// let refused = Refusal { number: 27, place: 0 };
+    /// assert_eq!(may(&Table::from_bytes(&[]), Wire(0), Wire(1)), Err(refused));
+    /// ```
     pub fn from_bytes(bytes: &[u8]) -> Table {
         let mut table = [0; Table::LENGTH];
         for (byte, &given) in table.iter_mut().zip(bytes) {
@@ -87,6 +100,25 @@ pub fn may(table: &Table, lender: Wire, taker: Wire) -> Result<bool, Refusal> {
 ///
 /// The refusals are 27, then 20 where a number is not below the width, 21 where the lender already
 /// lends, 22 where the taker already takes and 23 where the pair closes a loop, at place 0.
+///
+/// ```
+/// use thaksipho::{count, offer, start, Refusal, Wire};
+///
+/// // B, of document 01: three wires without gates.
+/// let b = [
+///     0x01, 3, 0x10, 0, 0x10, 1, 0x10, 2, 0x11, 0, 0, 0x11, 1, 1, 0x11, 2, 2,
+/// ];
+/// let refused = |number| Err(Refusal { number, place: 0 });
+/// let table = offer(&start(&b)?, Wire(0), Wire(1))?;
+/// assert_eq!(offer(&table, Wire(0), Wire(3)), refused(20));
+/// assert_eq!(offer(&table, Wire(0), Wire(2)), refused(21));
+/// assert_eq!(offer(&table, Wire(2), Wire(1)), refused(22));
+/// assert_eq!(offer(&table, Wire(1), Wire(0)), refused(23));
+/// // A wire that has taken may still lend; after that no pair is left.
+/// let table = offer(&table, Wire(1), Wire(2))?;
+/// assert_eq!(count(&table), Ok(0));
+/// # Ok::<(), Refusal>(())
+/// ```
 pub fn offer(table: &Table, lender: Wire, taker: Wire) -> Result<Table, Refusal> {
     let mut after = [0; Table::LENGTH];
     bytes::offer(&table.0, lender, taker, &mut after)?;
@@ -94,6 +126,17 @@ pub fn offer(table: &Table, lender: Wire, taker: Wire) -> Result<Table, Refusal>
 }
 
 /// How many pairs are yes.
+///
+/// ```
+/// use thaksipho::{count, start, Refusal};
+///
+/// // A, of document 01: only wire 0 may lend, and only to wire 2.
+/// let a = [
+///     0x01, 3, 0x10, 0, 0x10, 1, 0x10, 2, 0x40, 0, 1, 0x40, 1, 2, 0x11, 0, 0, 0x11, 1, 1, 0x11, 2, 2,
+/// ];
+/// assert_eq!(count(&start(&a)?), Ok(1));
+/// # Ok::<(), Refusal>(())
+/// ```
 pub fn count(table: &Table) -> Result<u32, Refusal> {
     bytes::count(&table.0)
 }
