@@ -76,64 +76,58 @@ fn bernstein_vazirani_cases() -> impl Iterator<Item = Case> {
     all_ones.into_iter().chain(others)
 }
 
+/// The wires and the layers of the linearly entangled circuits.
+const LINEAR_SIZES: [(u8, u8); 8] = [
+    (4, 1),
+    (8, 1),
+    (8, 3),
+    (16, 3),
+    (32, 1),
+    (32, 5),
+    (32, 15),
+    (32, 31),
+];
+
+/// Those of the circularly entangled circuits.
+const CIRCULAR_SIZES: [(u8, u8); 5] = [(4, 1), (8, 1), (16, 1), (32, 1), (8, 2)];
+
+/// Those of the pairwise entangled circuits.
+const PAIRWISE_SIZES: [(u8, u8); 16] = [
+    (4, 1),
+    (8, 1),
+    (8, 2),
+    (8, 3),
+    (16, 1),
+    (16, 2),
+    (16, 3),
+    (16, 4),
+    (16, 7),
+    (32, 1),
+    (32, 2),
+    (32, 4),
+    (32, 7),
+    (32, 8),
+    (32, 12),
+    (32, 16),
+];
+
 fn layered_cases() -> Vec<Case> {
-    let mut cases = Vec::new();
-    let mut add = |family, sizes: &[(u8, u8)], circuit: Build, paper_minimum: Minimum| {
-        cases.extend(sizes.iter().map(|&(wires, layers)| Case {
+    let cases = |family, sizes: &[(u8, u8)], circuit: Build, paper_minimum: Minimum| {
+        let case = |&(wires, layers): &(u8, u8)| Case {
             family,
             size: format!("n = {wires}, l = {layers}"),
             circuit: circuit(wires, layers),
             paper_minimum: paper_minimum(wires, layers),
-        }));
+        };
+        sizes.iter().map(case).collect::<Vec<_>>()
     };
-    let sizes = [
-        (4, 1),
-        (8, 1),
-        (8, 3),
-        (16, 3),
-        (32, 1),
-        (32, 5),
-        (32, 15),
-        (32, 31),
-    ];
-    add(
-        "Linearly entangled",
-        &sizes,
-        linear::circuit,
-        linear::paper_minimum,
-    );
-    let sizes = [(4, 1), (8, 1), (16, 1), (32, 1), (8, 2)];
-    add(
-        "Circularly entangled",
-        &sizes,
-        circular::circuit,
-        circular::paper_minimum,
-    );
-    let sizes = [
-        (4, 1),
-        (8, 1),
-        (8, 2),
-        (8, 3),
-        (16, 1),
-        (16, 2),
-        (16, 3),
-        (16, 4),
-        (16, 7),
-        (32, 1),
-        (32, 2),
-        (32, 4),
-        (32, 7),
-        (32, 8),
-        (32, 12),
-        (32, 16),
-    ];
-    add(
-        "Pairwise entangled",
-        &sizes,
-        pairwise::circuit,
-        pairwise::paper_minimum,
-    );
-    cases
+    let (circuit, minimum) = (linear::circuit, linear::paper_minimum);
+    let linear = cases("Linearly entangled", &LINEAR_SIZES, circuit, minimum);
+    let (circuit, minimum) = (circular::circuit, circular::paper_minimum);
+    let circular = cases("Circularly entangled", &CIRCULAR_SIZES, circuit, minimum);
+    let (circuit, minimum) = (pairwise::circuit, pairwise::paper_minimum);
+    let pairwise = cases("Pairwise entangled", &PAIRWISE_SIZES, circuit, minimum);
+    [linear, circular, pairwise].into_iter().flatten().collect()
 }
 
 fn diamond_cases() -> impl Iterator<Item = Case> {
