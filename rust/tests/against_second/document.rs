@@ -7,11 +7,8 @@ use samples::circuits::bare;
 use samples::document;
 use thaksipho::{read, rewrite, Circuit, Refusal};
 
-fn accepted(mark: &str, input: &[u8], wires: u8, instructions: u32) {
-    let expected = Ok(Circuit {
-        wires,
-        instructions,
-    });
+/// Both programs give this answer, and write the input again alike.
+fn answered(mark: &str, input: &[u8], expected: Result<Circuit, Refusal>) {
     assert_eq!(read(input), expected, "{mark}");
     assert_eq!(
         second_read(input),
@@ -21,15 +18,16 @@ fn accepted(mark: &str, input: &[u8], wires: u8, instructions: u32) {
     compare_rewriting(input, input.len());
 }
 
+fn accepted(mark: &str, input: &[u8], wires: u8, instructions: u32) {
+    let circuit = Circuit {
+        wires,
+        instructions,
+    };
+    answered(mark, input, Ok(circuit));
+}
+
 fn refused(mark: &str, input: &[u8], number: u8, place: u32) {
-    let expected = Err(Refusal { number, place });
-    assert_eq!(read(input), expected, "{mark}");
-    assert_eq!(
-        second_read(input),
-        expected,
-        "{mark}, by the second program"
-    );
-    compare_rewriting(input, input.len());
+    answered(mark, input, Err(Refusal { number, place }));
 }
 
 #[test]
