@@ -11,3 +11,4 @@ pub mod HandMade
 pub mod StartRows
 pub mod DemandThree
 pub mod WorkedTable
+pub mod Padded

@@ -9,7 +9,7 @@ use native.Mathlib.Omega.{arith}
 use native.Mathlib.Decide.{decLt}
 use borrow.Author.Tests.{le-ltb, ltb-true}
 use lib.Dec.{ltb}
-use lib.ListN.{length, getD, set, replicate, getD-replicate, List·getD-eq-default}
+use lib.ListN.{length, getD, set, replicate, length-replicate, getD-replicate, List·getD-eq-default}
 use lib.Seq.{getD-set-other}
 use Rattle.basics.specs.Choice.{pick}
 use Rattle.bits.specs.Bits.{digit, pack, each, total, tally}
@@ -63,22 +63,17 @@ pub record Filling (f : ℕ → ℕ) (u : ℕ) (rows : List ℕ) : Type 0 where
   pub front : (j : ℕ) → j < u → getD rows j 0 ≡ f j
   pub rest : (j : ℕ) → u ≤ j → getD rows j 0 ≡ 0
 
-abbrev zeros : List ℕ
-zeros = replicate mostWires 0
+-- zeros, and past them 0
+pub zero-at : (n i : ℕ) → getD {A = ℕ} (replicate n 0) i 0 ≡ 0
+zero-at n i = go (decLt i n)
+  where
+    go : Dec (i < n) → getD {A = ℕ} (replicate n 0) i 0 ≡ 0
+    go (yes l) = getD-replicate n i 0 0 l
+    go (no l) = List·getD-eq-default (replicate n 0) 0 {n = i} (omega (arith, length-replicate {A = ℕ} n 0))
 
 module _ (f : ℕ → ℕ) where
-  pub filling-starts : Filling f 0 zeros
-  filling-starts = record {
-    front = λ j l. absurd (not-suc-le-zero l);
-    rest = λ j l. go j (decLt j mostWires);
-  }
-    where
-      go : (j : ℕ) → Dec (j < mostWires) → getD zeros j 0 ≡ 0
-      go j (yes l) = getD-replicate mostWires j 0 0 l
-      go j (no l) = List·getD-eq-default zeros 0 {n = j} (omega (arith, length-zeros))
-        where
-          length-zeros : length zeros ≡ mostWires
-          length-zeros = refl
+  pub filling-starts : Filling f 0 (replicate mostWires 0)
+  filling-starts = record { front = λ j l. absurd (not-suc-le-zero l); rest = λ j l. zero-at mostWires j }
 
   pub filling-more : (u : ℕ) (rows : List ℕ) (x : ℕ) → u < length rows → Filling f u rows → x ≡ f u → Filling f (u + 1) (set rows u x)
   filling-more u rows x l h e = record {

@@ -12,16 +12,10 @@ ghost use Rattle.table.specs.TableBytes.{setAt, tableOf, tableBytes};
 // How many values a byte has.
 const BYTE_VALUES: Row = 256;
 
-// A byte, or 0 past the end.
-fn byte_at(bytes: &[u8], at: usize) -> u8
-    ensures { λ r. ⌜ r ≡ getD (now (bytes .entry)) at 0 ⌝ }
-{
-    if at < bytes.len() { bytes[at] } else { 0 }
-}
-
-// A row or a set of used wires, by its index after the width.
+// A row or a set of used wires, by its index after the width, of bytes that hold a whole table.
 fn set_at(bytes: &[u8], index: usize) -> Row
     requires { ⌜ index ≤ mostWires + 1 ⌝ }
+    requires { ⌜ tableLength ≤ length (now bytes) ⌝ }
     ensures { λ r. ⌜ r ≡ setAt (now (bytes .entry)) index ⌝ }
 {
     let at = 1 + Table::ROW_BYTES * index;
@@ -29,13 +23,14 @@ fn set_at(bytes: &[u8], index: usize) -> Row
     let mut i = Table::ROW_BYTES;
     while 0 < i {
         i -= 1;
-        row = row * BYTE_VALUES + byte_at(bytes, at + i) as Row;
+        row = row * BYTE_VALUES + bytes[at + i] as Row;
     }
     row
 }
 
-// The table that bytes say: missing bytes count as 0, and further ones are not read.
-pub fn table_of(bytes: &[u8]) -> Table
+// The table that bytes say which hold a whole one: no byte needs a test of its own.
+fn whole_table(bytes: &[u8]) -> Table
+    requires { ⌜ tableLength ≤ length (now bytes) ⌝ }
     ensures { λ r. ⌜ r ≡ tableOf (now (bytes .entry)) ⌝ }
 {
     let mut rows = [0; Table::ROWS];
@@ -45,11 +40,23 @@ pub fn table_of(bytes: &[u8]) -> Table
         u += 1;
     }
     Table {
-        width: byte_at(bytes, 0),
+        width: bytes[0],
         rows,
         lending: set_at(bytes, Table::ROWS),
         taking: set_at(bytes, Table::ROWS + 1),
     }
+}
+
+// The table that bytes say: missing bytes count as 0, and further ones are not read.
+pub fn table_of(bytes: &[u8]) -> Table
+    ensures { λ r. ⌜ r ≡ tableOf (now (bytes .entry)) ⌝ }
+{
+    if bytes.len() < Table::BYTES {
+        let mut padded = [0; Table::BYTES];
+        writing::put_bytes(&mut padded, 0, bytes);
+        return whole_table(&padded);
+    }
+    whole_table(bytes)
 }
 
 fn row_bytes(row: Row) -> [u8; Table::ROW_BYTES]

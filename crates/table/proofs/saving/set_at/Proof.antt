@@ -1,6 +1,9 @@
 -- `table::saving::set_at` meets its contract: before each turn the bytes from the i-th on are read. Assumes nothing.
+use Prim.Native.Nat.{_+_, _*_, _-_, _<_}
 use native.Mathlib.Omega.{arith}
 use borrow.Author.Needs.{needs}
+use lib.ListN.{getD}
+use Rattle.writing.specs.Numbers.{byteValues}
 use Rattle.writing.proofs.Reading.{Reading, reading-start, reading-fits, reading-byte, reading-end}
 use Rattle.table.specs.Limits.{rowBytes}
 use Rattle.table.proofs.saving.set_at.Statement.{statement}
@@ -27,23 +30,30 @@ sub-i c = search needs
 mul-row : tie.Need-mul-row Inv-loop μ-loop
 mul-row c = omega (arith, reading-fits (c .before .loop .inv) (c .loop-test .taken) 0 (search needs))
 
-add-byte-at : tie.Need-add-byte-at Inv-loop μ-loop
-add-byte-at c = search needs
+add-row : tie.Need-add-row Inv-loop μ-loop
+add-row c = search needs
 
-byte-at-requires : tie.Need-byte-at-requires Inv-loop μ-loop
-byte-at-requires c κs = search needs
+shared-slice-read-row : tie.Need-shared-slice-read-row Inv-loop μ-loop
+shared-slice-read-row c = omega arith
 
 cast-row : tie.Need-cast-row Inv-loop μ-loop
-cast-row c = search needs
+cast-row c =
+    let place = 1 + rowBytes * c .before .before .before .args .index + (c .before .before .loop .i - 1) in
+    omega (arith, c .shared-slice-known .given place)
 
-add-row : tie.Need-add-row Inv-loop μ-loop
-add-row c = omega (arith, reading-fits (c .before .before .loop .inv) (c .before .loop-test .taken) (c .byte-at .result) (search needs))
+add-row-2 : tie.Need-add-row-2 Inv-loop μ-loop
+add-row-2 c =
+    let place = 1 + rowBytes * c .before .before .before .args .index + (c .before .before .loop .i - 1) in
+    let byte : getD (c .before .before .before .args .bytes .now) place 0 < byteValues = omega (arith, c .shared-slice-known .given place) in
+    omega (arith, reading-fits (c .before .before .loop .inv) (c .before .loop-test .taken) _ byte)
 
 loop-less : tie.Need-loop-less Inv-loop μ-loop
 loop-less c = search needs
 
 loop-again : tie.Need-loop-again Inv-loop μ-loop
-loop-again c = rw (c .byte-at .ensures) (reading-byte (c .before .before .loop .inv) (c .before .loop-test .taken) (search needs))
+loop-again c =
+    let place = 1 + rowBytes * c .before .before .before .args .index + (c .before .before .loop .i - 1) in
+    reading-byte (c .before .before .loop .inv) (c .before .loop-test .taken) (omega (arith, c .shared-slice-known .given place))
 
 returns : tie.Need-returns Inv-loop μ-loop
 returns c = reading-end (c .before .loop .inv) (omega arith)
@@ -59,10 +69,10 @@ set-at-spec =
     loop-holds
     sub-i
     mul-row
-    add-byte-at
-    byte-at-requires
-    cast-row
     add-row
+    shared-slice-read-row
+    cast-row
+    add-row-2
     loop-less
     loop-again
     returns)

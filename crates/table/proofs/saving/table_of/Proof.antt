@@ -1,84 +1,43 @@
--- `table::saving::table_of` meets its contract: before turn u the rows below u are read. Assumes nothing.
-use Prim.Native.Nat.{ℕ, _≤_, _<_, _-_}
-use mathlib.Core.Path.{_≡_, refl}
-use native.Mathlib.Nat.{not-suc-le-zero}
+-- `table::saving::table_of` meets its contract: the zeros behind the bytes are those that are missing. Assumes nothing.
+use mathlib.Core.Path.{refl, sym, ap, _∙_}
 use native.Mathlib.Omega.{arith}
 use borrow.Author.Needs.{needs}
-use lib.Dec.{lit≤}
-use lib.ListN.{length, getD, length-set}
-use Rattle.bits.proofs.Lists.{filled, each-eq}
-use Rattle.table.specs.Limits.{mostWires}
-use Rattle.table.specs.TableBytes.{setAt, tableOf}
+use Rattle.writing.proofs.Puts.{placed-wrote, placed-length}
+use Rattle.table.specs.Limits.{tableLength}
+use Rattle.table.specs.TableBytes.{tableOf}
+use Rattle.table.proofs.Padded.{padded-table}
 use Rattle.table.proofs.saving.table_of.Statement.{statement}
 use Rattle.table.proofs.saving.table_of.Tie as tie
 
-abbrev Inv-loop : tie.InvT-loop
-Inv-loop bytes rows₀ u₀ rows u = (u ≤ mostWires) × (length rows ≡ mostWires) × ((j : ℕ) → j < u → getD rows j 0 ≡ setAt bytes j)
+slice-aggregate-put-bytes : tie.Need-slice-aggregate-put-bytes
+slice-aggregate-put-bytes c = refl
 
-abbrev μ-loop : tie.MeasureT-loop
-μ-loop bytes rows₀ u₀ rows u = mostWires - u
+put-bytes-requires : tie.Need-put-bytes-requires
+put-bytes-requires c κs = search needs
 
-loop-holds : tie.Need-loop-holds Inv-loop μ-loop
-loop-holds c = (lit≤ tt, refl, λ j l. absurd (not-suc-le-zero l))
+slice-aggregate-whole-table : tie.Need-slice-aggregate-whole-table
+slice-aggregate-whole-table c = sym (placed-length (c .before .before .put-bytes .ensures))
 
-set-at-requires : tie.Need-set-at-requires Inv-loop μ-loop
-set-at-requires c κs = search needs
+whole-table-requires : tie.Need-whole-table-requires
+whole-table-requires c κs = omega (arith, placed-length (c .before .before .put-bytes .ensures))
 
-mul-rows : tie.Need-mul-rows Inv-loop μ-loop
-mul-rows c = search needs
+returns : tie.Need-returns
+returns c = c .whole-table .ensures ∙ ap tableOf (placed-wrote (c .before .before .before .put-bytes .ensures) (omega arith) .holds) ∙ padded-table tableLength _
 
-array-write-rows : tie.Need-array-write-rows Inv-loop μ-loop
-array-write-rows c = search needs
+whole-table-requires-2 : tie.Need-whole-table-requires-2
+whole-table-requires-2 c κs = search needs
 
-add-u : tie.Need-add-u Inv-loop μ-loop
-add-u c = search needs
-
-loop-less : tie.Need-loop-less Inv-loop μ-loop
-loop-less c = search needs
-
-loop-again : tie.Need-loop-again Inv-loop μ-loop
-loop-again c =
-    let h = c .before .before .loop in (
-      search needs,
-      simp length-set (h .inv .1),
-      filled (setAt (c .before .before .before .before .args .bytes .now)) (h .rows) (h .u) (c .set-at .result) (search needs) (h .inv .2) (c .set-at .ensures),
-    )
-
-byte-at-requires : tie.Need-byte-at-requires Inv-loop μ-loop
-byte-at-requires c κs = search needs
-
-set-at-requires-2 : tie.Need-set-at-requires-2 Inv-loop μ-loop
-set-at-requires-2 c κs = search needs
-
-add-set-at : tie.Need-add-set-at Inv-loop μ-loop
-add-set-at c = search needs
-
-set-at-requires-3 : tie.Need-set-at-requires-3 Inv-loop μ-loop
-set-at-requires-3 c κs = search needs
-
-returns : tie.Need-returns Inv-loop μ-loop
-unfolding tableOf
-returns c =
-    let h = c .before .before .before .before .loop in
-    let s = c .before .before .before .before .before .before .args .bytes .now in
-    let rows = each-eq mostWires (setAt s) (h .rows) (h .inv .1) (λ u l. h .inv .2 u (omega arith)) in
-    λ i. record { width = c .before .before .byte-at .ensures i; rows = rows i; lending = c .before .set-at2 .ensures i; taking = c .set-at3 .ensures i }
+returns-2 : tie.Need-returns-2
+returns-2 c = c .whole-table2 .ensures
 
 pub table-of-spec : {M : Type 1} → statement M
 table-of-spec =
     tie.close
     (tie.spec
-    Inv-loop
-    μ-loop
-    loop-holds
-    set-at-requires
-    mul-rows
-    array-write-rows
-    add-u
-    loop-less
-    loop-again
-    byte-at-requires
-    set-at-requires-2
-    add-set-at
-    set-at-requires-3
-    returns)
+    slice-aggregate-put-bytes
+    put-bytes-requires
+    slice-aggregate-whole-table
+    whole-table-requires
+    returns
+    whole-table-requires-2
+    returns-2)
