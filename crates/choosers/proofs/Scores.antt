@@ -1,5 +1,5 @@
 -- A pair's score without the table after it: the marks that the rows of the other lenders keep. Assumes nothing.
-use Prim.Native.Nat.{ℕ, zero, suc, _/_, _%_, _^_, _<_}
+use Prim.Native.Nat.{ℕ, zero, suc, _/_, _%_, _^_, _≤_, _<_}
 use native.Mathlib.Nat.{le-refl}
 use mathlib.Core.Path.{_≡_, refl, sym, ap, _∙_}
 use mathlib.Core.Logic.{_⊎_, inl, inr, _≢_}
@@ -8,12 +8,12 @@ use mathlib.Core.List.{List}
 use mathlib.Core.Option.{Option}
 use native.Mathlib.Omega.{arith}
 use borrow.Author.Tests.{eq-eqb, ne-eqb}
-use lib.Dec.{eqb}
+use lib.Dec.{eqb, lit<}
 use lib.ListN.{length, getD, set, length-set}
 use lib.Seq.{getD-set-same, getD-set-other}
 use Rattle.basics.proofs.Tests.{same-or-other}
 use Rattle.bits.specs.Bits.{bit, digit, pack, total, tally}
-use Rattle.bits.proofs.Packing.{nothing-packed, bit-pack}
+use Rattle.bits.proofs.Packing.{nothing-packed, bit-pack, bit-past}
 use Rattle.bits.proofs.Lists.{length-each, getD-each, each-eq}
 use Rattle.bits.proofs.Sums.{total-cut}
 use Rattle.table.specs.Limits.{mostWires}
@@ -22,7 +22,7 @@ use Rattle.table.specs.Rule.{rowAfter, accepted}
 use Rattle.table.specs.Calls.{wrongWidth}
 use Rattle.table.specs.declared.tables.Table.{Table}
 use Rattle.table.proofs.TableMarks.{spread}
-use Rattle.choosers.specs.Trying.{Tried, better, tryPair, scoreIn}
+use Rattle.choosers.specs.Trying.{Tried, better, tryPair, tryTakers, scoreIn}
 use Rattle.choosers.specs.Results.{otherRows, marksLeft}
 use Rattle.choosers.proofs.YesPairs.{counts-within, far-lender, fits, yes-updated}
 
@@ -80,6 +80,14 @@ module _ (t : Table) (right : wrongWidth t ≡ false) (lender : ℕ) (rows : Lis
     tries-not unset =
         let mark : counts t lender taker ≡ false = sym marked ∙ ne-eqb _ _ unset in
         rw mark
+
+  -- a lender without marks tries nobody
+  pub tries-none : given ≡ 0 → (n : ℕ) → n ≤ t .width → (o : Option Tried) → o ≡ tryTakers (counts t) (scoreIn t) lender n o
+  unfolding tryTakers
+  tries-none none zero l o = refl
+  tries-none none (suc n) l o =
+      let mark : counts t lender n ≡ false = sym (given-bit n (omega (arith, fits t right))) ∙ ap (bit n) none ∙ bit-past 0 n (lit< tt) (omega arith) in
+      rw mark (tries-none none n (omega arith) o)
 
 -- ---- one lender's row put aside, and put back
 

@@ -70,13 +70,17 @@ fn marks_left(rows: &[Row; Table::ROWS], width: u8, given: Row, taker: Wire) -> 
     n
 }
 
-// Tries the takers of one lender, rising. Its own marks are given, and its row is empty.
+// Tries the takers of one lender, rising. Its own marks are given, and its row is empty. Most lenders have no marks left in the later
+// rounds, so that is tested once and not for each taker.
 fn try_takers(table: Table, rows: &[Row; Table::ROWS], given: Row, lender: Wire, best: Best) -> Best
     requires { ⌜ wrongWidth table ≡ false ⌝ }
     requires { ⌜ now rows ≡ otherRows table (lender .0) ⌝ }
     requires { ⌜ given ≡ pack mostWires (counts table (lender .0)) ⌝ }
     ensures { λ r. ⌜ bestSaid r ≡ tryTakers (counts table) (scoreIn table) (lender .0) (table .width) (bestSaid best) ⌝ }
 {
+    if given == 0 {
+        return best;
+    }
     let mut now = best;
     let mut taker: u8 = 0;
     while taker < table.width {
