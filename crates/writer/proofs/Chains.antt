@@ -7,14 +7,18 @@ use mathlib.Core.Bool.{Bool, true, false}
 use mathlib.Core.List.{List, []}
 use native.Mathlib.Omega.{arith}
 use native.Mathlib.Numerals.{add-one}
-use lib.ListN.{length}
+use lib.ListN.{length, getD, set}
+use lib.Seq.{getD-set-same, getD-set-other}
 use borrow.Author.Tests.{ltb-true}
 use Rattle.basics.specs.Choice.{pick}
 use Rattle.basics.proofs.Tests.{true-or-false, refuted, same-or-other, below-or-not}
+use Rattle.bits.specs.Bits.{each}
+use Rattle.bits.proofs.Lists.{getD-each}
+use Rattle.circuits.specs.Limits.{mostWires}
 use Rattle.orders.specs.Indices.{In}
 use Rattle.orders.specs.Runs.{Pair}
 use Rattle.pairs.specs.Lending.{lenderOf, takes, pairsBelow, pairsOf}
-use Rattle.writer.specs.Chains.{firstFrom, firstOf, begins, firstsBelow, qubitOf, qubits}
+use Rattle.writer.specs.Chains.{firstFrom, firstOf, begins, firstsBelow, qubitOf, qubits, unknown, Falls, Tells}
 use Rattle.writer.specs.Chains.{Begun, Joined, same, lends, takes-from}
 use Rattle.writer.proofs.Pairs.{pairs-none, pairs-taker, pairs-first, pair-in, pair-says}
 
@@ -54,6 +58,44 @@ module _ (lenders : List ℕ) (width : ℕ) where
       go : (b : Bool) → pick b 0 1 ≤ 1
       go true = omega arith
       go false = omega arith
+
+  pub count-at : (counts : List ℕ) → counts ≡ each mostWires (firstsBelow lenders width) → (x : ℕ) → x < mostWires → getD counts x 0 ≡ firstsBelow lenders width x
+  count-at counts e x l = ap (λ (xs : List ℕ). getD xs x 0) e ∙ getD-each mostWires (firstsBelow lenders width) x l
+
+  -- ## Ways that lead down
+
+  -- a wire that takes from nobody tells its own number
+  pub tells-first : (x n : ℕ) → takes lenders width x ≡ false → n ≡ firstsBelow lenders width x → Tells lenders width x n
+  unfolding qubitOf
+  tells-first x n t e = inr (e ∙ ap (firstsBelow lenders width) (sym (first-here width x t)), λ steps l. first-here steps x t ∙ sym (first-here width x t))
+
+  -- and one that takes from a lower wire what that one tells: its first wire is the same, and is reached in time
+  module _ (x next : ℕ) (t : takes lenders width x ≡ true) (e : next ≡ lenderOf lenders x) (lower : next < x) where
+    one-on : Falls lenders width next → (steps : ℕ) → next < steps → firstFrom lenders width steps x ≡ firstOf lenders width next
+    one-on falls steps l = sym (first-on steps x next (omega arith) t e) ∙ falls (steps - 1) (omega arith)
+
+    same-first : Falls lenders width next → firstOf lenders width x ≡ firstOf lenders width next
+    same-first falls = one-on falls width (omega (arith, ltb-true (lenderOf lenders x) width t))
+
+    pub tells-on : (n : ℕ) → Tells lenders width next n → Tells lenders width x n
+    unfolding qubitOf
+    tells-on n (inl u) = inl u
+    tells-on n (inr (q, falls)) =
+        inr (q ∙ ap (firstsBelow lenders width) (sym (same-first falls)), λ steps l. one-on falls steps (omega arith) ∙ sym (same-first falls))
+
+  pub tells-qubit : (x n : ℕ) → Tells lenders width x n → n < unknown → n ≡ qubitOf lenders width x
+  tells-qubit x n (inl u) l = absurd (omega arith)
+  tells-qubit x n (inr (q, falls)) l = q
+
+  -- one wire more
+  pub tells-more : (told : List ℕ) (x n : ℕ) → x < length told → ((j : ℕ) → j < x → Tells lenders width j (getD told j 0)) → Tells lenders width x n
+      → (j : ℕ) → j < x + 1 → Tells lenders width j (getD (set told x n) j 0)
+  tells-more told x n l h t j m = elim (same-or-other j x) [
+    | inl e ↦ subst (λ (i : ℕ). Tells lenders width i (getD (set told x n) i 0)) (sym e) (subst (Tells lenders width x) (sym (getD-set-same told x n 0 l)) t)
+    | inr d ↦ subst (Tells lenders width j) (sym (getD-set-other told x j n 0 d)) (h j (omega arith))
+  ]
+
+  -- ## More of counting
 
   first-counted : (x : ℕ) → takes lenders width x ≡ false → firstsBelow lenders width (suc x) ≡ firstsBelow lenders width x + 1
   unfolding firstsBelow

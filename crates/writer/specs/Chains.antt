@@ -1,13 +1,18 @@
 -- Chains: which wires the pairs join, the first wire of each chain, and the qubit of each wire. The pairs are given as the lender of
 -- each taker. Definitions alone.
-use Prim.Native.Nat.{ℕ, zero, suc, _+_, _<_}
+use Prim.Native.Nat.{ℕ, zero, suc, _+_, _≤_, _<_}
 use mathlib.Core.Path.{_≡_}
+use mathlib.Core.Logic.{_⊎_}
 use mathlib.Core.Bool.{false}
 use mathlib.Core.List.{List}
 use Rattle.basics.specs.Choice.{pick}
 use Rattle.orders.specs.Indices.{In}
 use Rattle.orders.specs.Runs.{Pair}
 use Rattle.pairs.specs.Lending.{lenderOf, takes}
+
+-- no qubit's number
+abbrev pub unknown : ℕ
+unknown = 255
 
 module _ (lenders : List ℕ) (width : ℕ) where
   -- from a wire to its lender, at most `steps` times, until one takes from nobody
@@ -31,6 +36,14 @@ module _ (lenders : List ℕ) (width : ℕ) where
   -- chains are numbered from 0 by rising number of their first wire; that is the qubit of every wire in the chain
   unfoldable pub qubitOf : ℕ → ℕ
   qubitOf x = firstsBelow (firstOf x)
+
+  -- the way from a wire leads down: after as many steps as its number it is at the first wire
+  abbrev pub Falls : ℕ → Type 0
+  Falls x = (steps : ℕ) → x ≤ steps → firstFrom steps x ≡ firstOf x
+
+  -- a number tells the qubit of a wire whose way leads down, or nothing
+  abbrev pub Tells : ℕ → ℕ → Type 0
+  Tells x n = (n ≡ unknown) ⊎ ((n ≡ qubitOf x) × Falls x)
 
   -- how many qubits there are: one for each chain
   abbrev pub qubits : ℕ

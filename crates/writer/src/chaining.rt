@@ -1,7 +1,10 @@
-// Chains: the first wire of a wire's chain, how many chains begin below a wire, and how many there are.
+// Chains: the first wire of a wire's chain, how many chains begin below a wire or below each, and how many there are.
+use circuits::Circuit;
 use pairs::Lenders;
 use records::Wire;
 ghost use mathlib.Core.Path.{_≡_};
+ghost use Rattle.bits.specs.Bits.{each};
+ghost use Rattle.circuits.specs.Limits.{mostWires};
 ghost use Rattle.writer.specs.Chains.{firstOf, begins, firstsBelow, qubits};
 
 // The first wire of a wire's chain.
@@ -39,6 +42,21 @@ pub fn firsts_below(lenders: Lenders, width: u8, wire: Wire) -> u8
         x += 1;
     }
     count
+}
+
+// How many first wires are lower than each wire, in one pass.
+pub fn all_firsts_below(lenders: Lenders, width: u8) -> [u8; Circuit::MOST_WIRES]
+    ensures { λ r. ⌜ r ≡ each mostWires (firstsBelow (lenders .lenders) width) ⌝ }
+{
+    let mut counts = [0; Circuit::MOST_WIRES];
+    let mut count: u8 = 0;
+    let mut x: u8 = 0;
+    while (x as usize) < Circuit::MOST_WIRES {
+        counts[x as usize] = count;
+        count += begins(lenders, width, Wire(x));
+        x += 1;
+    }
+    counts
 }
 
 // How many qubits there are: one for each chain.
