@@ -15,9 +15,11 @@ use Rattle.records.specs.Records.{Standing, stands, over, recordAt}
 use Rattle.records.specs.declared.instructions.Record.the-variants.{StaticWidth, DynamicWidth, Step, Reuse}
 use Rattle.records.proofs.Standings.{over-end}
 use Rattle.records.proofs.RoundTrip.{Back, round-trip}
+use Rattle.table.specs.Marks.{Clean}
 use Rattle.table.specs.Calls.{offered}
 use Rattle.table.specs.Growing.{Growing}
 use Rattle.table.specs.declared.tables.Table.{Table}
+use Rattle.table.proofs.Offers.{taken-updated}
 use Rattle.pairs.specs.Lending.{nobodyLends, lent, lendersIn}
 use Rattle.pairs.specs.Listing.{Next, pair, end, pairKind, pairRecord, pairOf, pairAt, pairsFrom, readPairs, pairsTold, refusedWith}
 use Rattle.pairs.specs.declared.lending.Lenders.{Lenders}
@@ -114,11 +116,12 @@ module _ (s : List ℕ) (at index more : ℕ) (g : Growing) (some : 0 < more) wh
 
 -- The loop
 
--- the pairs taken so far, and that reading on from here ends where the whole reading does
+-- the pairs taken so far, that after the first the table is clean, and that reading on from here ends where the whole reading does
 pub record Going (t : Table) (s : List ℕ) (now : Table) (lenders : Lenders) (at index : ℕ) : Type 0 where
   pub pairs : List Pair
   pub counted : length pairs ≡ index
   pub lends : lenders .lenders ≡ lendersIn pairs
+  pub clean : 0 < index → Clean now
   pub onward : index ≤ at
   pub inside : at ≤ length s
   pub reads : pairsFrom (suc (length s) - index) s at index (record { table = now; pairs = pairs }) ≡ readPairs t s
@@ -130,6 +133,7 @@ module _ (t : Table) (s : List ℕ) where
     pairs = [];
     counted = refl;
     lends = e;
+    clean = λ l. absurd (omega arith);
     onward = omega arith;
     inside = omega arith;
     reads = let z : suc (length s) - 0 ≡ suc (length s) = omega arith in ap (λ (n : ℕ). pairsFrom n s 0 0 (record { table = t; pairs = [] })) z;
@@ -172,6 +176,7 @@ module _ (t : Table) (s : List ℕ) where
             pairs = p ∷ g .pairs;
             counted = omega arith;
             lends = l ∙ ap (λ (ls : List ℕ). lent ls (p .0) (p .1)) (g .lends);
+            clean = λ some-taken. taken-updated now (p .0) (p .1) after f .clean;
             onward = omega arith;
             inside = back .within;
             reads =

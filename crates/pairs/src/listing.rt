@@ -8,10 +8,14 @@ use records::Refusal;
 use records::Wire;
 use records::record_at;
 use records::shape;
+use table::Offered;
 use table::Reply;
 use table::Table;
 ghost use mathlib.Core.Path.{_≡_};
+ghost use Prim.Native.Nat.{_<_};
 ghost use Rattle.records.specs.Records.{answered};
+ghost use Rattle.table.specs.Marks.{Clean};
+ghost use Rattle.table.specs.Calls.{offered, settled};
 ghost use Rattle.pairs.specs.Listing.{foundPair, pairForm, pairKind, pairOf, pairAt, readPairs, pairsTold, refusedWith};
 
 pub enum Pairs {
@@ -116,6 +120,17 @@ fn refuse(number: u8, place: usize, table: Table) -> Paired
     }
 }
 
+// Offers the pair of an index. After the first pair every mark of the table counts.
+fn take(table: Table, index: usize, lender: Wire, taker: Wire) -> Offered
+    requires { ⌜ (0 < index → Clean table) ⌝ }
+    ensures { λ r. ⌜ settled r ≡ offered table (lender .0) (taker .0) ⌝ }
+{
+    if index == 0 {
+        return table::offer(table, lender, taker);
+    }
+    table::offer_clean(table, lender, taker)
+}
+
 // Reads a pair list against a table: each pair is offered to the table as those before it leave it.
 pub fn read_pairs(table: Table, list: &[u8]) -> Paired
     ensures { λ r. ⌜ r ≡ pairsTold table (readPairs table (now (list .entry))) ⌝ }
@@ -133,7 +148,7 @@ pub fn read_pairs(table: Table, list: &[u8]) -> Paired
             },
             Found::Refused(r) => return refuse(r.number, r.place, table),
             Found::Pair(lender, taker, next) => {
-                let offered = table::offer(now, lender, taker);
+                let offered = take(now, index, lender, taker);
                 let reply = offered.reply;
                 match reply {
                     Reply::Refused(r) => return refuse(r.number, index, table),

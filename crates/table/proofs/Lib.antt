@@ -6,6 +6,7 @@ pub mod Numbers
 pub mod Updates
 pub mod RowsBelow
 pub mod Offers
+pub mod CleanOffers
 pub mod SavedTables
 pub mod HandMade
 pub mod StartRows

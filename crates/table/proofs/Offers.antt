@@ -2,6 +2,7 @@
 use mathlib.Core.Path.{_≡_, refl, sym, ap, ap₂, _∙_}
 use mathlib.Core.Bool.{Bool, true, false, not, _&&_, _||_, true≢false}
 use Prim.Native.Nat.{ℕ, _≤_, _<_}
+use native.Mathlib.Omega.{arith}
 use borrow.Author.Tests.{ltb-true, ltb-false, lt-leb}
 use lib.Dec.{eqb, ltb}
 use lib.ListN.{getD}
@@ -77,6 +78,9 @@ module _ (t : Table) (lender taker : ℕ) where
             no-mark false ea true eb c ec = not-refused (sym (already-lends t lender taker right-width ea eb) ∙ taken)
             no-mark false ea false eb true ec = not-refused (sym (already-takes t lender taker right-width ea eb ec) ∙ taken)
             no-mark false ea false eb false ec = not-refused (sym (closes-loop t lender taker right-width ea eb ec e) ∙ taken)
+
+    pub taken-inside : lender < mostWires
+    taken-inside = omega (arith, unused t lender taker taken-counts .lender-below, width-fits t right-width)
 
   -- what `may` says, by the width
   may-refused : wrongWidth t ≡ true → mayLend t lender taker ≡ refused 27 0

@@ -7,7 +7,7 @@ use Rattle.basics.specs.Outcome.{Outcome, done, refused, handing}
 use Rattle.bits.specs.Bits.{bit}
 use Rattle.table.specs.Limits.{mostWires}
 use Rattle.table.specs.Marks.{counts, marksOf}
-use Rattle.table.specs.Rule.{accepted}
+use Rattle.table.specs.Rule.{accepted, acceptedClean}
 use Rattle.table.specs.declared.tables.Table.{Table}
 use Rattle.table.specs.declared.answers.Offered.{Offered}
 use Rattle.table.specs.declared.answers.Permission.{Permission}
@@ -42,6 +42,10 @@ judged t lender taker =
 -- an offer that is taken hands back the table after it
 abbrev pub offered : Table → ℕ → ℕ → Outcome Table
 offered t lender taker = handing (accepted t lender taker) (judged t lender taker)
+
+-- the same by the marks that are set, for a table in which all of them count
+abbrev pub offeredClean : Table → ℕ → ℕ → Outcome Table
+offeredClean t lender taker = handing (acceptedClean t lender taker) (judged t lender taker)
 
 -- how many marks count
 unfoldable pub countOf : Table → Outcome ℕ

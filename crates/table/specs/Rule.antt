@@ -3,7 +3,8 @@ use Prim.Native.Nat.{ℕ, _<_}
 use mathlib.Core.Path.{_≡_}
 use mathlib.Core.Bool.{Bool, not, _&&_, _||_}
 use lib.Dec.{eqb}
-use Rattle.bits.specs.Bits.{pack, each}
+use lib.ListN.{getD}
+use Rattle.bits.specs.Bits.{bit, pack, each}
 use Rattle.table.specs.Limits.{mostWires}
 use Rattle.table.specs.Marks.{counts, lends, takes, marksOf, Clean}
 use Rattle.table.specs.declared.tables.Table.{Table}
@@ -32,6 +33,19 @@ acceptedIn most t lender taker = record {
 -- the same in the rows of a table
 abbrev pub accepted : Table → ℕ → ℕ → Table
 accepted = acceptedIn mostWires
+
+-- a mark that is set, whether or not it counts
+abbrev pub isSet : Table → ℕ → ℕ → Bool
+isSet t u v = bit v (getD (t .rows) u 0)
+
+-- the table once the lender lends to the taker, by the marks that are set: where all of these count it is the same
+unfoldable pub acceptedClean : Table → ℕ → ℕ → Table
+acceptedClean t lender taker = record {
+  width = t .width;
+  rows = each mostWires (λ u. pack mostWires (markAfter (isSet t) lender taker u));
+  lending = pack mostWires (usedAfter (lends t) lender);
+  taking = pack mostWires (usedAfter (takes t) taker);
+}
 
 -- `after` is `before` once the lender lends to the taker: its marks are what the rule leaves, fewer count, and it is clean
 pub record Updated (before : Table) (lender taker : ℕ) (after : Table) : Type 0 where

@@ -1,5 +1,6 @@
 // The table of possible reuse pairs: which wire may lend to which, what an offer makes of it, and its bytes.
 pub mod answers;
+mod clean_offers;
 mod counting;
 mod offering;
 mod rows;
@@ -13,6 +14,7 @@ pub use answers::Permission;
 pub use answers::Reply;
 pub use answers::Start;
 pub use answers::Started;
+pub use clean_offers::offer_clean;
 pub use counting::all_marks;
 pub use counting::count;
 pub use counting::score;

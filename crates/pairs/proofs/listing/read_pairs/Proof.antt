@@ -45,8 +45,8 @@ returns-2 c = c .refuse .ensures ∙ going-refused _ _ _ _ _ _ (c .before .befor
 enum-known-lender : tie.Need-enum-known-lender Inv-loop μ-loop
 enum-known-lender c = search needs
 
-offer-requires : tie.Need-offer-requires Inv-loop μ-loop
-offer-requires c κs = search needs
+take-requires : tie.Need-take-requires Inv-loop μ-loop
+take-requires c κs = c .before .before .before .before .loop .inv .clean
 
 enum-known-reply : tie.Need-enum-known-reply Inv-loop μ-loop
 enum-known-reply c = search needs
@@ -58,7 +58,7 @@ returns-3 : tie.Need-returns-3 Inv-loop μ-loop
 returns-3 c =
     c .refuse2 .ensures
     ∙ going-untaken _ _ _ _ _ _ (c .before .before .before .before .before .before .before .before .before .loop .inv) (sym (c .before .before .before .before .before .before .before .before .pair-at .ensures) ∙ ap foundPair (c .before .before .before .before .before .before .lender .given .1))
-    (sym (c .before .before .before .before .offer .ensures .0) ∙ ap (λ r. handing (c .before .before .before .before .offer .result .table) (replied r)) (c .before .before .reply .given .1))
+    (sym (c .before .before .before .before .take .ensures) ∙ ap (λ r. handing (c .before .before .before .before .take .result .table) (replied r)) (c .before .before .reply .given .1))
 
 enum-told-2 : tie.Need-enum-told-2 Inv-loop μ-loop
 enum-told-2 c = search needs
@@ -75,7 +75,7 @@ loop-less c = omega (arith, c .before .before .before .before .before .before .b
 loop-again : tie.Need-loop-again Inv-loop μ-loop
 loop-again c =
     going-on _ _ _ _ _ _ (c .before .before .before .before .before .before .before .before .before .loop .inv) (sym (c .before .before .before .before .before .before .before .before .pair-at .ensures) ∙ ap foundPair (c .before .before .before .before .before .before .lender .given .1))
-    (sym (c .before .before .before .before .offer .ensures .0) ∙ ap (λ r. handing (c .before .before .before .before .offer .result .table) (replied r)) (c .before .before .enum-told2 .given .1))
+    (sym (c .before .before .before .before .take .ensures) ∙ ap (λ r. handing (c .before .before .before .before .take .result .table) (replied r)) (c .before .before .enum-told2 .given .1))
     (c .with-pair .ensures)
 
 pub read-pairs-spec : {M : Type 1} → statement M
@@ -93,7 +93,7 @@ read-pairs-spec =
     refuse-requires
     returns-2
     enum-known-lender
-    offer-requires
+    take-requires
     enum-known-reply
     refuse-requires-2
     returns-3
