@@ -42,26 +42,6 @@ module _ (lenders : List ℕ) (width : ℕ) where
   first-on zero x next l t e = absurd (omega arith)
   first-on (suc steps) x next l t e = let z : suc steps - 1 ≡ steps = omega arith in rw (z, t, e)
 
-  -- ## Counting first wires
-
-  pub firsts-none : firstsBelow lenders width 0 ≡ 0
-  unfolding firstsBelow
-  firsts-none = refl
-
-  pub firsts-more : (x count : ℕ) → count ≡ firstsBelow lenders width x → count + begins lenders width x ≡ firstsBelow lenders width (x + 1)
-  unfolding firstsBelow
-  firsts-more x count e = rw (add-one, e)
-
-  pub begins-few : (x : ℕ) → begins lenders width x ≤ 1
-  begins-few x = go (takes lenders width x)
-    where
-      go : (b : Bool) → pick b 0 1 ≤ 1
-      go true = omega arith
-      go false = omega arith
-
-  pub count-at : (counts : List ℕ) → counts ≡ each mostWires (firstsBelow lenders width) → (x : ℕ) → x < mostWires → getD counts x 0 ≡ firstsBelow lenders width x
-  count-at counts e x l = ap (λ (xs : List ℕ). getD xs x 0) e ∙ getD-each mostWires (firstsBelow lenders width) x l
-
   -- ## Ways that lead down
 
   -- a wire that takes from nobody tells its own number
@@ -95,7 +75,25 @@ module _ (lenders : List ℕ) (width : ℕ) where
     | inr d ↦ subst (Tells lenders width j) (sym (getD-set-other told x j n 0 d)) (h j (omega arith))
   ]
 
-  -- ## More of counting
+  -- ## Counting first wires
+
+  pub firsts-none : firstsBelow lenders width 0 ≡ 0
+  unfolding firstsBelow
+  firsts-none = refl
+
+  pub firsts-more : (x count : ℕ) → count ≡ firstsBelow lenders width x → count + begins lenders width x ≡ firstsBelow lenders width (x + 1)
+  unfolding firstsBelow
+  firsts-more x count e = rw (add-one, e)
+
+  pub begins-few : (x : ℕ) → begins lenders width x ≤ 1
+  begins-few x = go (takes lenders width x)
+    where
+      go : (b : Bool) → pick b 0 1 ≤ 1
+      go true = omega arith
+      go false = omega arith
+
+  pub count-at : (counts : List ℕ) → counts ≡ each mostWires (firstsBelow lenders width) → (x : ℕ) → x < mostWires → getD counts x 0 ≡ firstsBelow lenders width x
+  count-at counts e x l = ap (λ (xs : List ℕ). getD xs x 0) e ∙ getD-each mostWires (firstsBelow lenders width) x l
 
   first-counted : (x : ℕ) → takes lenders width x ≡ false → firstsBelow lenders width (suc x) ≡ firstsBelow lenders width x + 1
   unfolding firstsBelow
