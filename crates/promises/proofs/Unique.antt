@@ -6,8 +6,6 @@ use Rattle.basics.specs.Outcome.{handing}
 use Rattle.basics.proofs.Outcomes.{not-refused}
 use Rattle.records.specs.declared.answers.Refusal.{Refusal}
 use Rattle.records.proofs.Unique.{refusal-one}
-use Rattle.circuits.specs.Reading.{readingOf}
-use Rattle.circuits.proofs.Unique.{reading-one}
 use Rattle.table.specs.Calls.{permitted, replied, settled, tallied}
 use Rattle.table.specs.Starting.{repliedAtStart, startedOf}
 use Rattle.table.specs.declared.tables.Table.{Table}
@@ -58,11 +56,10 @@ start-one (start.Refused r) (start.Refused q) t u e = ap (λ (x : Refusal). star
 start-one start.Done (start.Refused q) t u e = absurd (not-refused (sym e))
 start-one (start.Refused r) start.Done t u e = absurd (not-refused e)
 
-pub started-one : (r s : Started) → startedOf r ≡ startedOf s → r .table ≡ s .table → readingOf (r .reading) ≡ readingOf (s .reading) → r ≡ s
-started-one r s e f g =
+pub started-one : (r s : Started) → startedOf r ≡ startedOf s → r .table ≡ s .table → r ≡ s
+started-one r s e f =
     let a = start-one (r .answer) (s .answer) (r .table) (s .table) e in
-    let b = reading-one (r .reading) (s .reading) g in
-    λ i. record { answer = a i; table = f i; reading = b i }
+    λ i. record { answer = a i; table = f i }
 
 pub compiling-one : (a b : Compiling) → compilingOf a ≡ compilingOf b → a ≡ b
 compiling-one (compiling.Done m) (compiling.Done n) e = cc

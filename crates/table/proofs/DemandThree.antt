@@ -8,11 +8,10 @@ use mathlib.Core.List.{List, [], _∷_}
 use native.Mathlib.Omega.{arith}
 use lib.Dec.{eqb, ltb}
 use lib.ListN.{getD}
-use borrow.Author.Tests.{eqb-true, eqb-false, ltb-true, eq-eqb, ne-eqb, lt-ltb, le-ltb, not-true, not-false}
+use borrow.Author.Tests.{eqb-true, ltb-true, ne-eqb, le-ltb}
 use Rattle.basics.specs.Choice.{pick}
 use Rattle.basics.specs.Outcome.{Outcome, done, refused}
 use Rattle.basics.proofs.Tests.{both, and-intro, not-both, refuted, not-of-false, same-test}
-use Rattle.basics.proofs.Outcomes.{not-refused}
 use Rattle.bits.specs.Bits.{bit, pack}
 use Rattle.bits.proofs.Packing.{bit-pack, bit-past}
 use Rattle.bits.proofs.Lists.{getD-each}
@@ -28,7 +27,7 @@ use Rattle.precedence.specs.Precedence.{circuitOf, wire}
 use Rattle.precedence.specs.Starts.{startOf}
 use Rattle.precedence.proofs.Precedence.{read-wired, circuit-lawful}
 use Rattle.precedence.proofs.Starts.{start-right}
-use Rattle.table.specs.Marks.{free, counts, lends, takes}
+use Rattle.table.specs.Marks.{free, counts}
 use Rattle.table.specs.Rule.{accepted, Updated}
 use Rattle.table.specs.Calls.{wrongWidth, mayLend, offered}
 use Rattle.table.specs.Starting.{startTable}

@@ -4,18 +4,17 @@ use Prim.Native.Nat.{ℕ, suc, _^_, _<_}
 use mathlib.Core.Bool.{Bool, true, false, not, _&&_, _||_, or-false}
 use mathlib.Core.Path.{_≡_, refl, sym, ap, ap₂, _∙_}
 use mathlib.Core.Logic.{inl, inr}
-use mathlib.Core.List.{List, [], _∷_}
+use mathlib.Core.List.{List, [], _∷_, _++_}
 use mathlib.Core.Option.{some}
 use native.Mathlib.Omega.{arith}
-use lib.Bits.{bitOr}
 use lib.Dec.{eqb, ltb, lit<}
-use lib.ListN.{length, getD, set, getElem?, length-set, getD-replicate}
+use lib.ListN.{length, getD, set, getElem?, length-set, length-replicate, getD-replicate, List·getD-eq-default}
 use lib.Seq.{getD-set-same, getD-set-other}
 use borrow.Author.Tests.{eqb-true, eqb-false}
 use Rattle.basics.specs.Choice.{pick}
+use Rattle.basics.proofs.Tests.{below-or-not}
 use Rattle.bits.specs.Bits.{bit, pack, each}
-use Rattle.bits.proofs.Packing.{pack-ext, pack-bit, bit-pack, bit-past}
-use Rattle.bits.proofs.Operations.{own, or-is}
+use Rattle.bits.proofs.Packing.{pack-lt, pack-ext, pack-bit, bit-pack, bit-past}
 use Rattle.bits.proofs.Lists.{length-each, getD-each, each-eq}
 use Rattle.orders.specs.Indices.{In}
 use Rattle.records.specs.declared.numbers.Line.{Line}
@@ -24,7 +23,9 @@ use Rattle.records.specs.declared.instructions.Instruction.the-variants.{Reset,
 use Rattle.basics.specs.Outcome.{done}
 use Rattle.circuits.specs.Reading.{Static, readCircuit}
 use Rattle.circuits.specs.Rewriting.{stepsOf}
+use Rattle.circuits.specs.Sketching.{sketchOf}
 use Rattle.circuits.specs.declared.circuit.Circuit.{Circuit}
+use Rattle.circuits.specs.declared.sketching.Sketch.{Sketch}
 use Rattle.circuits.proofs.Validity.{read-valid}
 use Rattle.circuits.proofs.Rewrites.{Accepted}
 use Rattle.circuits.specs.Validity.{Valid}
@@ -33,7 +34,7 @@ use Rattle.precedence.specs.Starts.{Sets, noSets, after, pass, leadingSets, sta
 use Rattle.precedence.proofs.Lives.{valid-below}
 use Rattle.precedence.proofs.Starts.{after-reset, after-measurement, after-gate, after-angled-gate, after-two, after-angled-two}
 use Rattle.table.specs.Limits.{mostWires}
-use Rattle.table.specs.Starting.{setsIn, rowsOf, noRows, rowsAfter, rowsPass, startFrom, startTable, tableAtStart, started}
+use Rattle.table.specs.Starting.{setsIn, rowsOf, noRows, rowsAfter, rowsSketched, rowsPass, startFrom, startTable, tableAtStart, started}
 use Rattle.table.specs.declared.tables.Table.{Table}
 
 -- a row that was stored, read back
@@ -97,11 +98,55 @@ module _ (rows : List ℕ) (many : length rows ≡ mostWires) (fits : (x : ℕ) 
       go x false true e f = row x false true e f
       go x false false e f = own-row x ∙ row x false false e f
 
-  -- the union, as the code computes it
-  pub union-is : (l m a b : ℕ) → a ≡ getD rows l 0 → b ≡ getD rows m 0 → bitOr a b ≡ pack mostWires (λ t. setsIn rows l t || setsIn rows m t)
-  union-is l m a b e f = ap₂ bitOr e f ∙ or-is (own mostWires (fits l)) (own mostWires (fits m)) .is
+  -- the rows after an instruction, by its sketch
+  pub sketched-rows : (i : Instruction) → rowsSketched (sketchOf i) rows ≡ rowsAfter i rows
+  sketched-rows (Reset l) = reset-rows l
+  sketched-rows (Measurement l b) = unchanged-rows _ (λ x t. after-measurement _ x t _ _)
+  sketched-rows (Gate k l) = unchanged-rows _ (λ x t. after-gate _ x t _ _)
+  sketched-rows (AngledGate k l a) = unchanged-rows _ (λ x t. after-angled-gate _ x t _ _ _)
+  sketched-rows (TwoLineGate k l m) = two-rows (l .0) (m .0) _ (λ x t. after-two _ x t _ _ _)
+  sketched-rows (AngledTwoLineGate k l m a) = two-rows (l .0) (m .0) _ (λ x t. after-angled-two _ x t _ _ _ _)
 
 -- The whole pass
+
+-- rows that can be held: so many, and each fits
+pub record Holdable (rows : List ℕ) : Type 0 where
+  pub many : length rows ≡ mostWires
+  pub fits : (x : ℕ) → getD rows x 0 < 2 ^ mostWires
+
+below-most : (rows : List ℕ) → length rows ≡ mostWires → ((x : ℕ) → x < mostWires → getD rows x 0 < 2 ^ mostWires) → Holdable rows
+below-most rows e f = record {
+  many = e;
+  fits = λ x. elim (below-or-not x mostWires) [
+    | inl l ↦ f x l
+    | inr l ↦ rw (List·getD-eq-default rows 0 {n = x} (omega arith)) (lit< tt)
+  ];
+}
+
+pub holdable-none : Holdable noRows
+holdable-none = below-most noRows (length-replicate {A = ℕ} mostWires 0) (λ x l. rw (getD-replicate {A = ℕ} mostWires x 0 0 l) (lit< tt))
+
+pub holdable-after : (i : Instruction) (rows : List ℕ) → Holdable (rowsAfter i rows)
+unfolding rowsAfter
+holdable-after i rows = below-most _ (length-each mostWires _) (λ x l. rw (getD-each mostWires _ x l) (pack-lt mostWires _))
+
+holdable-pass : (is : List Instruction) (rows : List ℕ) → Holdable rows → Holdable (rowsPass is rows)
+unfolding rowsPass
+holdable-pass [] rows h = h
+holdable-pass (i ∷ is) rows h = holdable-pass is (rowsAfter i rows) (holdable-after i rows)
+
+pass-last : (js : List Instruction) (i : Instruction) (rows : List ℕ) → rowsPass (js ++ i ∷ []) rows ≡ rowsAfter i (rowsPass js rows)
+unfolding rowsPass
+pass-last [] i rows = refl
+pass-last (j ∷ js) i rows = pass-last js i (rowsAfter j rows)
+
+-- one instruction more, by its sketch
+pub pass-more : (js : List Instruction) (i : Instruction) {k : Sketch} {rows new : List ℕ} → rows ≡ rowsPass js noRows → sketchOf i ≡ k → new ≡ rowsSketched k rows
+    → new ≡ rowsPass (js ++ i ∷ []) noRows
+pass-more js i {k} {rows} e like f =
+    let h = holdable-pass js noRows holdable-none in
+    f ∙ ap (λ (z : Sketch). rowsSketched z rows) (sym like) ∙ ap (rowsSketched (sketchOf i)) e
+    ∙ sketched-rows (rowsPass js noRows) (h .many) (h .fits) i ∙ sym (pass-last js i noRows)
 
 -- sets that agree about wires
 abbrev Agree : Sets → Sets → Type 0

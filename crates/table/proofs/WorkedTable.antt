@@ -17,7 +17,7 @@ use Rattle.precedence.specs.Starts.{leadingTo, after, pass}
 use Rattle.table.specs.Limits.{mostWires}
 use Rattle.table.specs.Marks.{counts}
 use Rattle.table.specs.Rule.{accepted, acceptedIn}
-use Rattle.table.specs.Calls.{mayLend, judged, offered}
+use Rattle.table.specs.Calls.{mayLend, judged}
 use Rattle.table.specs.Starting.{startTable, started}
 use Rattle.table.specs.declared.tables.Table.{Table}
 

@@ -1,5 +1,4 @@
 -- A table that takes offers: the marks, the used wires and the pairs accepted so far, as crate `orders` speaks of them.
-use Prim.Native.Nat.{ℕ}
 use mathlib.Core.List.{List, [], _∷_}
 use Rattle.basics.specs.Outcome.{Outcome, done, refused}
 use Rattle.orders.specs.Runs.{Pair}

@@ -1,13 +1,15 @@
 -- The table at the start, in rows of marks, and the pass that makes it.
 use Prim.Native.Nat.{ℕ}
-use mathlib.Core.Bool.{Bool, _&&_}
+use mathlib.Core.Bool.{Bool, _&&_, _||_}
 use mathlib.Core.List.{List, [], _∷_}
-use lib.Dec.{ltb}
-use lib.ListN.{getD, replicate}
+use lib.Dec.{ltb, eqb}
+use lib.ListN.{getD, set, replicate}
 use Rattle.basics.specs.Outcome.{Outcome, done, refused, handing}
 use Rattle.bits.specs.Bits.{bit, pack, each}
 use Rattle.records.specs.declared.instructions.Instruction.{Instruction}
 use Rattle.circuits.specs.Reading.{Static, readCircuit}
+use Rattle.circuits.specs.declared.sketching.Sketch.{Sketch}
+use Rattle.circuits.specs.declared.sketching.Sketch.the-variants as sketch
 use Rattle.precedence.specs.Starts.{Sets, after, startOf}
 use Rattle.table.specs.Limits.{mostWires}
 use Rattle.table.specs.Marks.{free}
@@ -56,6 +58,15 @@ noRows = replicate mostWires 0
 -- the rows after an instruction, and after one after the other
 unfoldable pub rowsAfter : Instruction → List ℕ → List ℕ
 rowsAfter i rows = rowsOf (after i (setsIn rows))
+
+-- the same by the instruction's sketch: a reset adds its wire to its own set, and a gate on two wires joins their sets
+abbrev pub rowsSketched : Sketch → List ℕ → List ℕ
+rowsSketched (sketch.Reset l) rows = set rows (l .0) (pack mostWires (λ t. bit t (getD rows (l .0) 0) || eqb t (l .0)))
+rowsSketched (sketch.Measurement l b) rows = rows
+rowsSketched (sketch.One l) rows = rows
+rowsSketched (sketch.Two l m) rows =
+    let both = pack mostWires (λ t. bit t (getD rows (l .0) 0) || bit t (getD rows (m .0) 0)) in
+    set (set rows (l .0) both) (m .0) both
 
 unfoldable pub rowsPass : List Instruction → List ℕ → List ℕ
 rowsPass [] rows = rows

@@ -1,6 +1,5 @@
 // What the calls on a table answer.
 use crate::tables::Table;
-use circuits::Reading;
 use records::Refusal;
 ghost use mathlib.Core.Path.{_≡_};
 ghost use mathlib.Core.Bool.{false};
@@ -63,10 +62,8 @@ pub enum Start {
     Refused(Refusal),
 }
 
-// The answer, the circuit's table, beside a refusal the table of no wires, and what the reader told, so that nobody reads the
-// circuit again.
+// The answer and the circuit's table, beside a refusal the table of no wires.
 pub struct Started {
     pub answer: Start,
     pub table: Table,
-    pub reading: Reading,
 }

@@ -15,7 +15,6 @@ use crate::tables::Table;
 use records::Refusal;
 use records::Wire;
 ghost use mathlib.Core.Path.{_≡_};
-ghost use lib.ListN.{getD};
 ghost use Rattle.basics.specs.Outcome.{beside, refused};
 ghost use Rattle.bits.specs.Bits.{pack};
 ghost use Rattle.table.specs.Limits.{mostWires};

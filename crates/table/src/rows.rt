@@ -3,7 +3,7 @@ use crate::tables::Row;
 use crate::tables::Table;
 use records::Wire;
 ghost use mathlib.Core.Path.{_≡_};
-ghost use mathlib.Core.Bool.{_&&_, _||_, not};
+ghost use mathlib.Core.Bool.{_&&_, not};
 ghost use lib.Dec.{ltb, eqb};
 ghost use Rattle.bits.specs.Bits.{bit, pack};
 ghost use Rattle.table.specs.Limits.{mostWires};

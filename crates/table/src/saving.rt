@@ -3,7 +3,7 @@ use crate::tables::Row;
 use crate::tables::Table;
 ghost use mathlib.Core.Path.{_≡_};
 ghost use Prim.Native.Nat.{_+_, _*_, _≤_};
-ghost use lib.ListN.{length, getD};
+ghost use lib.ListN.{length};
 ghost use Rattle.writing.specs.Writing.{Placed, Wrote};
 ghost use Rattle.writing.specs.Numbers.{bytesOf, bytesOfAll};
 ghost use Rattle.table.specs.Limits.{mostWires, rowBytes, tableLength};

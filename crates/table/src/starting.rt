@@ -5,12 +5,12 @@ use crate::rows::unused;
 use crate::tables::Row;
 use crate::tables::Table;
 use circuits::Circuit;
-use circuits::Found;
+use circuits::Glimpse;
 use circuits::Reading;
+use circuits::Sketch;
 use circuits::read;
-use circuits::step_at;
+use circuits::sketch_at;
 use circuits::wire_of;
-use records::Instruction;
 use records::Wire;
 ghost use mathlib.Core.Path.{_≡_};
 ghost use mathlib.Core.Bool.{_||_};
@@ -20,48 +20,37 @@ ghost use Rattle.basics.specs.Outcome.{beside};
 ghost use Rattle.bits.specs.Bits.{bit, pack};
 ghost use Rattle.circuits.specs.Limits.{mostInstructions, headerLength};
 ghost use Rattle.circuits.specs.Stepping.{Steps};
-ghost use Rattle.circuits.specs.Reading.{readCircuit, readingOf, summary};
+ghost use Rattle.circuits.specs.Reading.{readCircuit};
 ghost use Rattle.circuits.specs.Rewriting.{stepsOf};
+ghost use Rattle.records.specs.Records.{line};
+ghost use Rattle.circuits.specs.declared.sketching.Sketch.the-variants as sketch;
 ghost use Rattle.table.specs.Limits.{mostWires};
 ghost use Rattle.table.specs.Marks.{emptyTable};
-ghost use Rattle.table.specs.Starting.{noRows, rowsAfter, rowsPass, startRow, startFrom, started, startedOf};
+ghost use Rattle.table.specs.Starting.{noRows, rowsSketched, rowsPass, startRow, startFrom, started, startedOf};
 
 // For each wire the wires whose resets lead to what the pass has come by on it.
 pub struct Sets {
     pub rows: [Row; Table::ROWS],
 }
 
-impl Sets {
-    fn none() -> Sets
-        ensures { λ r. ⌜ r .rows ≡ noRows ⌝ }
-    {
-        Sets {
-            rows: [0; Table::ROWS],
-        }
+// A wire's set; past the last wire none.
+fn set_of(rows: &[Row], wire: Wire) -> Row
+    ensures { λ r. ⌜ r ≡ getD (now (rows .entry)) (wire .0) 0 ⌝ }
+{
+    let n = wire.0 as usize;
+    if n < rows.len() {
+        return rows[n];
     }
+    0
+}
 
-    // A wire's set; past the last wire none.
-    fn of(self, wire: Wire) -> Row
-        ensures { λ r. ⌜ r ≡ getD (self .rows) (wire .0) 0 ⌝ }
-    {
-        let n = wire.0 as usize;
-        if n < Table::ROWS {
-            return self.rows[n];
-        }
-        0
-    }
-
-    // The sets with one wire's changed.
-    fn with(self, wire: Wire, row: Row) -> Sets
-        ensures { λ r. ⌜ r .rows ≡ set (self .rows) (wire .0) row ⌝ }
-    {
-        let n = wire.0 as usize;
-        if n < Table::ROWS {
-            let mut changed = self;
-            changed.rows[n] = row;
-            return changed;
-        }
-        self
+// Changes one wire's set.
+fn change_set(rows: &mut [Row], wire: Wire, row: Row)
+    ensures { λ _. ⌜ now (rows .exit) ≡ set (now (rows .entry)) (wire .0) row ⌝ }
+{
+    let n = wire.0 as usize;
+    if n < rows.len() {
+        rows[n] = row;
     }
 }
 
@@ -77,31 +66,27 @@ fn add_wire(row: Row, wire: Wire) -> Row
 }
 
 // What the resets of both lead to, either leads to.
-fn join(sets: Sets, first: Wire, second: Wire) -> Sets
-    ensures { λ r. ⌜ r .rows ≡ set (set (sets .rows) (first .0) (pack mostWires (λ t. bit t (getD (sets .rows) (first .0) 0) || bit t (getD (sets .rows) (second .0) 0)))) (second .0) (pack mostWires (λ t. bit t (getD (sets .rows) (first .0) 0) || bit t (getD (sets .rows) (second .0) 0))) ⌝ }
+fn join(rows: &mut [Row], first: Wire, second: Wire)
+    ensures { λ _. ⌜ now (rows .exit) ≡ rowsSketched (sketch.Two (line (first .0)) (line (second .0))) (now (rows .entry)) ⌝ }
 {
-    let both = sets.of(first) | sets.of(second);
-    sets.with(first, both).with(second, both)
+    let both = set_of(rows, first) | set_of(rows, second);
+    change_set(rows, first, both);
+    change_set(rows, second, both);
 }
 
-// The sets after an instruction.
-fn sets_after(sets: Sets, i: Instruction) -> Sets
-    ensures { λ r. ⌜ r .rows ≡ rowsAfter i (sets .rows) ⌝ }
+// Brings the sets on past an instruction.
+pub fn join_sets(rows: &mut [Row], sketch: Sketch)
+    ensures { λ _. ⌜ now (rows .exit) ≡ rowsSketched sketch (now (rows .entry)) ⌝ }
 {
-    match i {
-        Instruction::Reset(line) => {
+    match sketch {
+        Sketch::Reset(line) => {
             let wire = wire_of(line);
-            sets.with(wire, add_wire(sets.of(wire), wire))
+            let row = add_wire(set_of(rows, wire), wire);
+            change_set(rows, wire, row);
         }
-        Instruction::Measurement(_, _) => sets,
-        Instruction::Gate(_, _) => sets,
-        Instruction::AngledGate(_, _, _) => sets,
-        Instruction::TwoLineGate(_, first, second) => join(sets, wire_of(first), wire_of(second)),
-        Instruction::AngledTwoLineGate(_, first, second, _) => join(
-            sets,
-            wire_of(first),
-            wire_of(second),
-        ),
+        Sketch::Measurement(_, _) => {}
+        Sketch::One(_) => {}
+        Sketch::Two(first, second) => join(rows, wire_of(first), wire_of(second)),
     }
 }
 
@@ -110,15 +95,15 @@ fn all_sets(circuit: &[u8]) -> Sets
     requires { ⌜ Steps (now circuit) headerLength mostInstructions (stepsOf (readCircuit (now circuit))) ⌝ }
     ensures { λ r. ⌜ r .rows ≡ rowsPass (stepsOf (readCircuit (now (circuit .entry)))) noRows ⌝ }
 {
-    let mut sets = Sets::none();
+    let mut rows = [0; Table::ROWS];
     let mut at = Circuit::HEADER;
     let mut left = Circuit::MOST_INSTRUCTIONS;
     loop {
-        match step_at(circuit, at, left) {
-            Found::End => return sets,
-            Found::Refused(_) => return sets,
-            Found::Step { instruction, next } => {
-                sets = sets_after(sets, instruction);
+        match sketch_at(circuit, at, left) {
+            Glimpse::End => return Sets { rows },
+            Glimpse::Refused(_) => return Sets { rows },
+            Glimpse::Step { sketch, next } => {
+                join_sets(&mut rows, sketch);
                 at = next;
                 left -= 1;
             }
@@ -138,7 +123,7 @@ fn start_row(width: u8, row: Row, lender: u8) -> Row
 }
 
 // The table by the sets at the end of the pass.
-fn table_from(width: u8, sets: Sets) -> Table
+pub fn table_from(width: u8, sets: Sets) -> Table
     ensures { λ r. ⌜ r ≡ startFrom width (sets .rows) ⌝ }
 {
     let mut rows = [0; Table::ROWS];
@@ -155,22 +140,20 @@ fn table_from(width: u8, sets: Sets) -> Table
     }
 }
 
-// The table of a circuit, or the reader's refusal with the table of no wires beside it; and what the reader told.
+// The table of a circuit, or the reader's refusal with the table of no wires beside it.
 pub fn start(circuit: &[u8]) -> Started
-    ensures { λ r. ⌜ (startedOf r ≡ started (now (circuit .entry))) × (r .table ≡ beside emptyTable (started (now (circuit .entry)))) × (readingOf (r .reading) ≡ summary (readCircuit (now (circuit .entry)))) ⌝ }
+    ensures { λ r. ⌜ (startedOf r ≡ started (now (circuit .entry))) × (r .table ≡ beside emptyTable (started (now (circuit .entry)))) ⌝ }
 {
     match read(circuit) {
         Reading::Refused(r) => Started {
             answer: Start::Refused(r),
             table: Table::empty(),
-            reading: Reading::Refused(r),
         },
         Reading::Valid(valid) => {
             let table = table_from(valid.width, all_sets(circuit));
             Started {
                 answer: Start::Done,
                 table,
-                reading: Reading::Valid(valid),
             }
         }
     }

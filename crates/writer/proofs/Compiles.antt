@@ -4,7 +4,7 @@ use mathlib.Core.Path.{_≡_, refl, sym, ap, subst, _∙_}
 use mathlib.Core.List.{List}
 use native.Mathlib.Omega.{arith}
 use lib.ListN.{length}
-use Rattle.basics.specs.Outcome.{Outcome, done, refused, handing, beside}
+use Rattle.basics.specs.Outcome.{Outcome, done, refused, handing}
 use Rattle.basics.proofs.Outcomes.{not-refused}
 use Rattle.writing.specs.Writing.{Wrote, holding}
 use Rattle.writing.proofs.Puts.{fitted-done, fitted-refused}
@@ -15,10 +15,10 @@ use Rattle.circuits.proofs.Rewrites.{Accepted}
 use Rattle.circuits.proofs.Validity.{read-valid}
 use Rattle.precedence.specs.Precedence.{circuitOf, Wired}
 use Rattle.precedence.proofs.Precedence.{read-wired, circuit-lawful}
-use Rattle.table.specs.Marks.{emptyTable}
 use Rattle.table.specs.Growing.{Growing}
-use Rattle.table.specs.Starting.{startTable, tableAtStart, started}
+use Rattle.table.specs.Starting.{noRows, rowsPass, startFrom, startTable}
 use Rattle.table.specs.declared.tables.Table.{Table}
+use Rattle.table.proofs.StartRows.{start-is}
 use Rattle.pairs.specs.Lending.{lendersIn, pairsOf}
 use Rattle.pairs.specs.Listing.{readPairs, pairsTold, pairedOf}
 use Rattle.pairs.specs.declared.listing.Paired.{Paired}
@@ -94,9 +94,11 @@ unfolding compiled
 circuit-refused s list room e = rw e
 
 module _ (s list : List ℕ) {told : Circuit} (a : Accepted s told) where
-  -- the table at the start is the circuit's
-  table-is : {t : Table} → t ≡ beside emptyTable (started s) → t ≡ startTable (a .circuit)
-  table-is e = e ∙ ap (λ (o : Outcome Static). beside emptyTable (tableAtStart o)) (a .is)
+  -- the table by the sets of resets is the circuit's
+  pub table-is : {t : Table} {rows : List ℕ} → ((c : Static) → readCircuit s ≡ done c → rows ≡ rowsPass (c .steps) noRows) → t ≡ startFrom (told .width) rows
+      → t ≡ startTable (a .circuit)
+  table-is {t} {rows} f e =
+      e ∙ ap (λ (w : ℕ). startFrom w rows) (a .width) ∙ ap (startFrom (a .circuit .width)) (f (a .circuit) (a .is)) ∙ start-is s (a .circuit) (read-valid s (a .is))
 
   pub pair-refused : (room : ℕ) {n p : ℕ} → readPairs (startTable (a .circuit)) list ≡ refused n p → compiled s list room ≡ refused n p
   unfolding compiled
@@ -126,9 +128,9 @@ module _ (s list : List ℕ) {told : Circuit} (a : Accepted s told) where
     compiled-qubits = qubits-and-list (a .circuit) wired (lendersIn (g .pairs)) (g .pairs) same allowed
 
   -- by what the code told of the list
-  module _ {t : Table} (start : t ≡ beside emptyTable (started s)) {p : Paired} (told-of : p ≡ pairsTold t (readPairs t list)) where
+  module _ {t : Table} (start : t ≡ startTable (a .circuit)) {p : Paired} (told-of : p ≡ pairsTold t (readPairs t list)) where
     from-start : {o : Outcome Growing} → readPairs t list ≡ o → readPairs (startTable (a .circuit)) list ≡ o
-    from-start e = ap (λ (u : Table). readPairs u list) (sym (table-is start)) ∙ e
+    from-start e = ap (λ (u : Table). readPairs u list) (sym start) ∙ e
 
     pub told-refused : {r : Refusal} → p .answer ≡ answer.Refused r → (room : ℕ) → compiled s list room ≡ refused (r .number) (r .place)
     told-refused e room = pair-refused room (from-start (list-refused t (readPairs t list) told-of e))

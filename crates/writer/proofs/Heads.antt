@@ -1,6 +1,6 @@
 -- The heads compute the order of writing: a head may be written exactly when it is ready, what is ready is the head of each of its wires, and
 -- so the least head that may be written is what comes next. Assumes nothing.
-use Prim.Native.Nat.{ℕ, zero, suc, _+_, _≤_, _<_}
+use Prim.Native.Nat.{ℕ, _+_, _≤_, _<_}
 use mathlib.Core.Path.{_≡_, refl, sym, ap, subst, _∙_}
 use mathlib.Core.Logic.{inl, inr, _↔_}
 use mathlib.Core.Bool.{Bool, true, false, _&&_}
@@ -8,7 +8,7 @@ use mathlib.Core.List.{List, [], _∷_, _++_}
 use mathlib.Core.Option.{some}
 use native.Mathlib.Omega.{arith}
 use lib.ListN.{length, getD, getElem?}
-use lib.Dec.{eqb}
+use lib.Dec.{eqb, ltb}
 use borrow.Author.Tests.{eqb-true, eq-eqb, ltb-true, lt-ltb}
 use Rattle.basics.proofs.Tests.{not-both, both, and-intro, implied, implies, same-or-other, below-or-not}
 use Rattle.orders.specs.Indices.{In}
@@ -23,75 +23,69 @@ use Rattle.records.specs.declared.instructions.Instruction.the-variants.{Reset,
 use Rattle.circuits.specs.Reading.{Static}
 use Rattle.circuits.specs.declared.circuit.Circuit.{Circuit}
 use Rattle.precedence.specs.Lives.{linesOf, touches, resets}
-use Rattle.precedence.specs.Precedence.{holds, at, on, linesIn, measOf, circuitOf, Wired}
-use Rattle.precedence.proofs.Precedence.{must-exactly, prec-exactly, on-prec, on-lines, spans, reset-there, meas-on, prec-meas, circuit-lawful}
-use Rattle.precedence.proofs.Spans.{at-some, at-inside}
+use Rattle.precedence.specs.Precedence.{holds, at, on, measOf, circuitOf, Wired}
+use Rattle.precedence.proofs.Precedence.{must-exactly, prec-exactly, on-prec, spans, reset-there, meas-on, prec-meas, circuit-lawful}
+use Rattle.precedence.proofs.Spans.{at-inside}
 use Rattle.pairs.specs.Lending.{lenderOf, takes, pairsOf}
-use Rattle.writer.specs.Heads.{touchedOf, NextOn, isFree, mayWrite, candidate}
+use Rattle.writer.specs.Heads.{formOf, firstWire, NextOn, Tabled, isFree, mayWrite, candidate}
+use Rattle.writer.proofs.Wires.{first-in, second-in, wire-on, on-wire, there}
 use Rattle.writer.proofs.Pairs.{pair-in, pair-says}
 
--- ## What may be written, by the lines of an instruction
+-- ## What a head that may be written tells
 
-module _ (lenders indices : List ℕ) (told : Circuit) where
+module _ (lenders indices : List ℕ) (c : Circuit) (forms firsts seconds : List ℕ) where
   -- a wire that takes is free exactly when its lender's head is past the last instruction
-  pub free-exactly : (x : ℕ) → (isFree lenders indices told x ≡ true)
-      ↔ (takes lenders (told .width) x ≡ true → getD indices (lenderOf lenders x) 0 ≡ told .instructions)
+  free-exactly : (x : ℕ) → (isFree lenders indices c x ≡ true) ↔ (takes lenders (c .width) x ≡ true → getD indices (lenderOf lenders x) 0 ≡ c .instructions)
   unfolding isFree
   free-exactly x = (
-    λ h t. eqb-true _ _ (implied (takes lenders (told .width) x) _ h t),
-    λ h. implies (takes lenders (told .width) x) _ (λ t. eq-eqb _ _ (h t)),
+    λ h t. eqb-true _ _ (implied (takes lenders (c .width) x) _ h t),
+    λ h. implies (takes lenders (c .width) x) _ (λ t. eq-eqb _ _ (h t)),
   )
 
-  module _ (j : ℕ) where
-    is-head : (x : ℕ) → eqb (getD indices x 0) j ≡ true → getD indices x 0 ≡ j
-    is-head x h = eqb-true (getD indices x 0) j h
+  -- an instruction is the head of its wires, and where it is a reset all on the lender of its wire is written
+  pub record May (k : ℕ) : Type 0 where
+    pub inside : k < c .instructions
+    pub first : getD indices (getD firsts k 0) 0 ≡ k
+    pub second : getD indices (getD seconds k 0) 0 ≡ k
+    pub free : getD forms k 0 ≡ 0 → takes lenders (c .width) (getD firsts k 0) ≡ true → getD indices (lenderOf lenders (getD firsts k 0)) 0 ≡ c .instructions
 
-    -- one line
-    one : (x : ℕ) → getD indices x 0 ≡ j → (y : ℕ) → In y (x ∷ []) → getD indices y 0 ≡ j
-    one x h y (inl e) = ap (λ z. getD indices z 0) e ∙ h
-    one x h y (inr k) = absurd k
+  pub may-tells : (x : ℕ) → candidate lenders indices c forms firsts seconds x ≡ true → May (getD indices x 0)
+  unfolding candidate mayWrite
+  may-tells x h =
+      let index = getD indices x 0 in
+      let b = both (ltb index (c .instructions)) _ h in
+      let f = both (eqb (getD indices (getD firsts index 0) 0) index) _ (b .1) in
+      let s = both (eqb (getD indices (getD seconds index 0) 0) index) _ (f .1) in
+      record {
+        inside = ltb-true index (c .instructions) (b .0);
+        first = eqb-true _ index (f .0);
+        second = eqb-true _ index (s .0);
+        free = λ r. free-exactly (getD firsts index 0) .0 (implied (eqb (getD forms index 0) 0) _ (s .1) (eq-eqb _ _ r));
+      }
 
-    -- two lines
-    two : (x z : ℕ) → (eqb (getD indices x 0) j && eqb (getD indices z 0) j) ≡ true → (y : ℕ) → In y (x ∷ z ∷ []) → getD indices y 0 ≡ j
-    two x z h y (inl e) = ap (λ v. getD indices v 0) e ∙ is-head x (both _ _ h .0)
-    two x z h y (inr k) = one z (is-head z (both (eqb (getD indices x 0) j) _ h .1)) y k
+  pub may-holds : (x : ℕ) → May (getD indices x 0) → candidate lenders indices c forms firsts seconds x ≡ true
+  unfolding candidate mayWrite
+  may-holds x g =
+      let index = getD indices x 0 in
+      and-intro (ltb index (c .instructions)) _ (lt-ltb index (c .instructions) (g .inside))
+      (and-intro (eqb (getD indices (getD firsts index 0) 0) index) _ (eq-eqb _ _ (g .first))
+      (and-intro (eqb (getD indices (getD seconds index 0) 0) index) _ (eq-eqb _ _ (g .second))
+      (implies (eqb (getD forms index 0) 0) _ (λ r. free-exactly (getD firsts index 0) .1 (g .free (eqb-true _ _ r))))))
 
-    -- it is the head of each of its lines
-    pub may-heads : (i : Instruction) → mayWrite lenders indices told j (touchedOf i) ≡ true → (y : ℕ) → In y (linesOf i) → getD indices y 0 ≡ j
-    may-heads (Reset l) h = one (l .0) (is-head (l .0) (both _ _ h .0))
-    may-heads (Measurement l b) h = one (l .0) (is-head (l .0) h)
-    may-heads (Gate k l) h = one (l .0) (is-head (l .0) h)
-    may-heads (AngledGate k l a) h = one (l .0) (is-head (l .0) h)
-    may-heads (TwoLineGate k l m) h = two (l .0) (m .0) h
-    may-heads (AngledTwoLineGate k l m a) h = two (l .0) (m .0) h
+  -- wires with the same head are candidates alike
+  pub may-same : (x y : ℕ) → getD indices y 0 ≡ getD indices x 0 → candidate lenders indices c forms firsts seconds x ≡ true
+      → candidate lenders indices c forms firsts seconds y ≡ true
+  unfolding candidate
+  may-same x y e h = subst (λ k. (ltb k (c .instructions) && mayWrite lenders indices c k (getD forms k 0) (getD firsts k 0) (getD seconds k 0)) ≡ true) (sym e) h
 
-    pub may-free : (x : ℕ) (i : Instruction) → i ≡ Reset (line x) → mayWrite lenders indices told j (touchedOf i) ≡ true → isFree lenders indices told x ≡ true
-    may-free x i e h = both (eqb (getD indices x 0) j) _ (subst (λ k. mayWrite lenders indices told j (touchedOf k) ≡ true) e h) .1
-
-    -- and what is the head of each of its lines, and free where it is a reset, may be written
-    pub may-from : (i : Instruction) → ((y : ℕ) → In y (linesOf i) → getD indices y 0 ≡ j) → ((x : ℕ) → i ≡ Reset (line x) → isFree lenders indices told x ≡ true)
-        → mayWrite lenders indices told j (touchedOf i) ≡ true
-    may-from (Reset l) h f = and-intro _ _ (eq-eqb _ _ (h (l .0) (inl refl))) (f (l .0) refl)
-    may-from (Measurement l b) h f = eq-eqb _ _ (h (l .0) (inl refl))
-    may-from (Gate k l) h f = eq-eqb _ _ (h (l .0) (inl refl))
-    may-from (AngledGate k l a) h f = eq-eqb _ _ (h (l .0) (inl refl))
-    may-from (TwoLineGate k l m) h f = and-intro _ _ (eq-eqb _ _ (h (l .0) (inl refl))) (eq-eqb _ _ (h (m .0) (inr (inl refl))))
-    may-from (AngledTwoLineGate k l m a) h f = and-intro _ _ (eq-eqb _ _ (h (l .0) (inl refl))) (eq-eqb _ _ (h (m .0) (inr (inl refl))))
-
--- an instruction has a line
-a-line : (i : Instruction) → (x : ℕ) × In x (linesOf i)
-a-line (Reset l) = (l .0, inl refl)
-a-line (Measurement l b) = (l .0, inl refl)
-a-line (Gate k l) = (l .0, inl refl)
-a-line (AngledGate k l a) = (l .0, inl refl)
-a-line (TwoLineGate k l m) = (l .0, inl refl)
-a-line (AngledTwoLineGate k l m a) = (l .0, inl refl)
-
--- there is an instruction at each index below their number
-pub there : (is : List Instruction) (k : ℕ) → k < length is → (i : Instruction) × (getElem? is k ≡ some i)
-there [] k l = absurd (omega arith)
-there (i ∷ is) zero l = (i, refl)
-there (i ∷ is) (suc k) l = there is k (omega arith)
+-- an instruction of the form of resets is one
+is-reset : (i : Instruction) → formOf i ≡ 0 → i ≡ Reset (line (firstWire i))
+is-reset (Reset l) h = refl
+is-reset (Measurement l b) h = absurd (omega arith)
+is-reset (Gate k l) h = absurd (omega arith)
+is-reset (AngledGate k l a) h = absurd (omega arith)
+is-reset (TwoLineGate k l m) h = absurd (omega arith)
+is-reset (AngledTwoLineGate k l m a) h = absurd (omega arith)
 
 -- ## A wire's head
 
@@ -148,6 +142,7 @@ module _ (is : List Instruction) (x : ℕ) where
 module _ (c : Static) (wired : Wired c) (lenders indices : List ℕ) (told : Circuit) (wide : told .width ≡ c .width)
     (many : told .instructions ≡ length (c .steps)) (done : List ℕ)
     (w : Written (circuitOf c) (pairsOf lenders (c .width)) done)
+    {forms firsts seconds : List ℕ} (tab : Tabled (c .steps) (told .instructions) forms firsts seconds)
     (heads : (x : ℕ) → x < c .width → Head (c .steps) done x (getD indices x 0)) where
   abbrev law : Lawful (circuitOf c)
   law = circuit-lawful c wired
@@ -156,7 +151,7 @@ module _ (c : Static) (wired : Wired c) (lenders indices : List ℕ) (told : Cir
   ps = pairsOf lenders (c .width)
 
   abbrev may : ℕ → Bool
-  may = candidate lenders indices told (c .steps)
+  may = candidate lenders indices told forms firsts seconds
 
   below : (x k : ℕ) → on (c .steps) x k ≡ true → x < c .width
   below x k o = ltb-true x (c .width) (wired .named x k o)
@@ -181,23 +176,29 @@ module _ (c : Static) (wired : Wired c) (lenders indices : List ℕ) (told : Cir
 
   -- a head that may be written is ready
   pub may-ready : (x : ℕ) → x < c .width → may x ≡ true → ready (circuitOf c) ps done (getD indices x 0) ≡ true
-  unfolding candidate
   may-ready x b m =
       let j = getD indices x 0 in
-      let r = at-some (λ i. mayWrite lenders indices told j (touchedOf i)) (c .steps) j m in
-      let l = at-inside (λ i. mayWrite lenders indices told j (touchedOf i)) (c .steps) j m in
+      let g = may-tells lenders indices told forms firsts seconds x m in
+      let l : j < length (c .steps) = omega (arith, g .inside, tab .all) in
+      let it = there (c .steps) j l in
       ready-exactly (circuitOf c) law ps done j .1 (
         heads x b .coming j (omega arith) (heads x b .here l),
         λ i a. elim (arrow-cases (circuitOf c) ps i j a) [
           | inl p ↦ (let y = prec-exactly (c .steps) i j .0 p in
               let u = must-exactly (c .steps) (y .0) i j .0 (y .1) in
-              let h = may-heads lenders indices told j (r .0) (r .2) (y .0) (subst (λ o. In (y .0) (linesIn o)) (r .1) (on-lines (c .steps) (y .0) j (u .2))) in
+              let h : getD indices (y .0) 0 ≡ j = elim (on-wire (c .steps) j (it .1) (y .0) (u .2)) [
+                | inl e ↦ ap (λ z. getD indices z 0) (e ∙ sym (tab .first j (it .0) (it .1))) ∙ g .first
+                | inr e ↦ ap (λ z. getD indices z 0) (e ∙ sym (tab .second j (it .0) (it .1))) ∙ g .second
+              ] in
               heads (y .0) (below (y .0) i (u .1)) .past i (omega arith) (u .1))
-          | inr q ↦ (let k = pair-in lenders (c .width) (q .0 .0) (q .0 .1) (q .1) in
-              let same : r .0 ≡ Reset (line (q .0 .1)) = cc (r .1, ap (getElem? (c .steps)) (q .3), reset-there c wired (q .0 .1) (lt-ltb (q .0 .1) (c .width) (k .taker))) in
-              let f = free-exactly lenders indices told (q .0 .1) .0 (may-free lenders indices told j (q .0 .1) (r .0) same (r .2)) (subst (λ v. takes lenders v (q .0 .1) ≡ true) (sym wide) (k .takes)) in
+          | inr q ↦ (let t = q .0 .1 in
+              let k = pair-in lenders (c .width) (q .0 .0) t (q .1) in
+              let same : it .0 ≡ Reset (line t) = cc (it .1, ap (getElem? (c .steps)) (q .3), reset-there c wired t (lt-ltb t (c .width) (k .taker))) in
+              let wire : getD firsts j 0 ≡ t = tab .first j (it .0) (it .1) ∙ ap firstWire same in
+              let f = g .free (tab .form j (it .0) (it .1) ∙ ap formOf same)
+              (subst (λ v. takes lenders v (getD firsts j 0) ≡ true) (sym wide) (subst (λ z. takes lenders (c .width) z ≡ true) (sym wire) (k .takes))) in
               subst (λ z. In z done) (sym (q .2))
-              (lender-past (q .0 .0) (k .lender) (ap (λ z. getD indices z 0) (k .is) ∙ f)))
+              (lender-past (q .0 .0) (k .lender) (ap (λ z. getD indices z 0) (k .is) ∙ ap (λ z. getD indices (lenderOf lenders z) 0) (sym wire) ∙ f)))
         ],
       )
 
@@ -220,27 +221,31 @@ module _ (c : Static) (wired : Wired c) (lenders indices : List ℕ) (told : Cir
   -- so some head may be written, and it is the one
   pub ready-may : (j : ℕ) → j < length (c .steps) → ready (circuitOf c) ps done j ≡ true
       → (x : ℕ) × (x < c .width) × (getD indices x 0 ≡ j) × (may x ≡ true)
-  unfolding candidate
   ready-may j l r =
       let i = there (c .steps) j l in
-      let x = a-line (i .0) in
-      let onto : ((y : ℕ) → In y (linesOf (i .0)) → on (c .steps) y j ≡ true) = λ y k. ap (holds (touches y)) (i .1) ∙ in-stands y (linesOf (i .0)) k in
-      let e = ready-head j r (x .0) (onto (x .0) (x .1)) in (
-        x .0,
-        below (x .0) j (onto (x .0) (x .1)),
+      let x = firstWire (i .0) in
+      let onto : ((y : ℕ) → In y (linesOf (i .0)) → on (c .steps) y j ≡ true) = wire-on (c .steps) j (i .1) in
+      let first = tab .first j (i .0) (i .1) in
+      let e = ready-head j r x (onto x (first-in (i .0))) in (
+        x,
+        below x j (onto x (first-in (i .0))),
         e,
-        subst (λ k. holds (λ i. mayWrite lenders indices told k (touchedOf i)) (getElem? (c .steps) k) ≡ true) (sym e)
-            (ap (holds (λ i. mayWrite lenders indices told j (touchedOf i))) (i .1)
-            ∙ may-from lenders indices told j (i .0) (λ y k. ready-head j r y (onto y k)) (λ t s. free j r (i .0) (i .1) t s)),
+        may-holds lenders indices told forms firsts seconds x (subst (May lenders indices told forms firsts seconds) (sym e) (record {
+          inside = omega (arith, tab .all);
+          first = ap (λ z. getD indices z 0) first ∙ e;
+          second = ap (λ z. getD indices z 0) (tab .second j (i .0) (i .1)) ∙ ready-head j r _ (onto _ (second-in (i .0)));
+          free = λ f t. ap (λ z. getD indices (lenderOf lenders z) 0) first
+              ∙ lender-done j r (i .0) (i .1) x (is-reset (i .0) (sym (tab .form j (i .0) (i .1)) ∙ f)) (subst (λ z. takes lenders (told .width) z ≡ true) first t);
+        })),
       )
     where
-      free : (j : ℕ) → ready (circuitOf c) ps done j ≡ true → (i : Instruction) → getElem? (c .steps) j ≡ some i → (t : ℕ) → i ≡ Reset (line t)
-          → isFree lenders indices told t ≡ true
-      free j r i e t s = free-exactly lenders indices told t .1 (λ k.
+      lender-done : (j : ℕ) → ready (circuitOf c) ps done j ≡ true → (i : Instruction) → getElem? (c .steps) j ≡ some i → (t : ℕ) → i ≡ Reset (line t)
+          → takes lenders (told .width) t ≡ true → getD indices (lenderOf lenders t) 0 ≡ told .instructions
+      lender-done j r i e t s k =
           let o : at (resets t) (c .steps) j ≡ true = ap (holds (resets t)) (e ∙ ap some s) ∙ eq-eqb t t refl in
           let b = below t j (ap (holds (touches t)) (e ∙ ap some s) ∙ in-stands t (t ∷ []) (inl refl)) in
           let k' = subst (λ v. takes lenders v t ≡ true) wide k in
           let z = spans c wired t (lt-ltb t (c .width) b) .one-reset j o in
           lender-over (lenderOf lenders t) (ltb-true _ _ k')
           (ready-exactly (circuitOf c) law ps done j .0 r .1 (measOf (c .steps) (lenderOf lenders t))
-          (arrow-pair (circuitOf c) ps (lenderOf lenders t, t) (measOf (c .steps) (lenderOf lenders t)) j (pair-says lenders (c .width) t b k') refl z)))
+          (arrow-pair (circuitOf c) ps (lenderOf lenders t, t) (measOf (c .steps) (lenderOf lenders t)) j (pair-says lenders (c .width) t b k') refl z))

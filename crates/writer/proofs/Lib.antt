@@ -1,10 +1,12 @@
 pub mod Pairs
 pub mod Chains
-pub mod Standing
+pub mod Wires
 pub mod Notes
 pub mod Heads
 pub mod Links
 pub mod Candidates
+pub mod Moves
+pub mod Copies
 pub mod Turns
 pub mod Written
 pub mod Stretches

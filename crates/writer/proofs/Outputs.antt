@@ -33,19 +33,11 @@ use Rattle.pairs.specs.Lending.{pairsOf}
 use Rattle.writer.specs.Chains.{qubitOf}
 use Rattle.writer.specs.Outputs.{renamed, leading, inOrder, orderOf, dynamicSteps, output}
 use Rattle.writer.proofs.Chains.{qubit-none, qubits-none}
-use Rattle.writer.proofs.Heads.{there}
+use Rattle.writer.proofs.Wires.{there}
+use Rattle.writer.proofs.Copies.{renamed-length}
 use Rattle.writer.proofs.Turns.{renamed-same, order-next}
 
 -- ## Renamed instructions
-
--- the bytes are as many
-renamed-length : (q : ℕ → ℕ) (i : Instruction) → length (instructionBytes (renamed q i)) ≡ length (instructionBytes i)
-renamed-length q (Reset l) = refl
-renamed-length q (Measurement l b) = refl
-renamed-length q (Gate k l) = refl
-renamed-length q (AngledGate k l a) = refl
-renamed-length q (TwoLineGate k l m) = refl
-renamed-length q (AngledTwoLineGate k l m a) = refl
 
 renamed-still : (i : Instruction) → renamed (λ x. x) i ≡ i
 renamed-still (Reset l) = refl

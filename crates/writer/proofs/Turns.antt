@@ -1,31 +1,30 @@
 -- The loop that writes: what is still to be written is the rest of the order, and each turn writes the first of it. Assumes nothing.
 use Prim.Native.Nat.{ℕ, zero, suc, _+_, _-_, _≤_, _<_}
 use mathlib.Core.Path.{_≡_, refl, sym, ap, subst, _∙_}
-use mathlib.Core.Logic.{inl, inr}
+use mathlib.Core.Logic.{inl, inr, _⊎_}
 use mathlib.Core.Bool.{true, false}
 use mathlib.Core.List.{List, [], _∷_, _++_, append-assoc, append-nil}
 use mathlib.Core.Option.{some}
 use native.Mathlib.Omega.{arith}
-use lib.ListN.{length, getD, getElem?}
+use lib.ListN.{length, getD, getElem?, replicate, length-append, length-replicate, getD-replicate}
 use lib.Dec.{ltb}
 use borrow.Author.Tests.{lt-ltb, le-ltb, ltb-true}
-use Rattle.basics.specs.Outcome.{done}
-use Rattle.basics.proofs.Tests.{refuted, below-or-not}
+use Rattle.basics.proofs.Tests.{refuted, below-or-not, true-or-false}
+use Rattle.bits.proofs.Lists.{getD-each}
 use Rattle.orders.specs.Indices.{In}
 use Rattle.orders.specs.Runs.{Pair}
 use Rattle.orders.specs.Runs as runs
 use Rattle.orders.specs.Schedule.{ready, next, writeOn, schedule}
 use Rattle.orders.proofs.Schedule.{Written, written-none, written-more, next-ready, next-is, writeOn-more, writeOn-stuck, writeOn-end}
-use Rattle.writing.specs.Writing.{Wrote, Placed}
-use Rattle.writing.proofs.Remaining.{Remaining, remaining-start, remaining-placed, remaining-end}
-use Rattle.records.specs.Bytes.{instructionBytes, recordBytes}
+use Rattle.writing.specs.Writing.{Wrote}
+use Rattle.writing.proofs.Remaining.{Remaining, remaining-start, remaining-call, remaining-fits, remaining-end}
+use Rattle.records.specs.Bytes.{instructionBytes}
 use Rattle.records.specs.Records.{line}
 use Rattle.records.specs.declared.instructions.Instruction.{Instruction}
 use Rattle.records.specs.declared.instructions.Instruction.the-variants.{Reset, Measurement, Gate, AngledGate, TwoLineGate, AngledTwoLineGate}
-use Rattle.records.specs.declared.instructions.Record.the-variants.{Step}
 use Rattle.circuits.specs.Limits.{mostWires, mostInstructions}
-use Rattle.circuits.specs.Stepping.{step, end, stepAt}
 use Rattle.circuits.specs.Validity.{stepsBytes}
+use Rattle.circuits.specs.Reading.{readCircuit}
 use Rattle.circuits.specs.Rewriting.{stepsOf}
 use Rattle.circuits.specs.declared.circuit.Circuit.{Circuit}
 use Rattle.circuits.proofs.Rewrites.{Accepted}
@@ -33,16 +32,15 @@ use Rattle.circuits.proofs.Validity.{read-valid}
 use Rattle.precedence.specs.Lives.{linesOf}
 use Rattle.precedence.specs.Precedence.{circuitOf, Wired}
 use Rattle.precedence.proofs.Precedence.{read-wired, circuit-lawful}
-use Rattle.precedence.proofs.Spans.{at-inside}
 use Rattle.pairs.specs.Lending.{pairsOf}
 use Rattle.writer.specs.Chains.{qubitOf}
 use Rattle.writer.specs.Outputs.{renamed, inOrder, dynamicSteps, Renames}
-use Rattle.writer.specs.Heads.{touchedOf, wiresOf, stepsIn, Stands, NextOn, Notes, Tabled, Linked, headed, mayWrite, candidate, Chooses}
-use Rattle.writer.specs.declared.seeking.Touched.{Touched}
-use Rattle.writer.proofs.Standing.{wires-lines, stands-next, stands-last}
-use Rattle.writer.proofs.Notes.{noted-tabled}
-use Rattle.writer.proofs.Links.{first-in, second-in, headed-length, headed-each, wire-on, wire-off}
-use Rattle.writer.proofs.Heads.{Head, head-first, head-kept, head-moved, may-ready, ready-head, ready-may}
+use Rattle.writer.specs.Heads.{formOf, firstWire, secondWire, NextOn, Noted, Notes, Tabled, Low, Fit, Linked, headed, candidate, candidateOf, triedBelow, triedBoth, Least}
+use Rattle.writer.proofs.Wires.{first-in, second-in, headed-length, headed-each, there, wire-on, wire-off, on-wire}
+use Rattle.writer.proofs.Heads.{Head, head-first, head-kept, head-moved, may-ready, ready-head, ready-may, may-tells}
+use Rattle.writer.proofs.Copies.{noted-length, renamed-length}
+use Rattle.writer.proofs.Moves.{moves-right}
+use Rattle.writer.proofs.Candidates.{both-length, Better, below-right, better-below}
 
 -- ## The rest of the order
 
@@ -102,6 +100,15 @@ pub order-next : (q : ℕ → ℕ) (is : List Instruction) (k : ℕ) (ks : List 
 unfolding inOrder
 order-next q is k ks e = rw (inOrder, e)
 
+-- a reset is on one wire
+reset-wire : (i : Instruction) → formOf i ≡ 0 → firstWire i ≡ secondWire i
+reset-wire (Reset l) h = refl
+reset-wire (Measurement l b) h = refl
+reset-wire (Gate k l) h = refl
+reset-wire (AngledGate k l a) h = refl
+reset-wire (TwoLineGate k l m) h = absurd (omega arith)
+reset-wire (AngledTwoLineGate k l m a) h = absurd (omega arith)
+
 -- ## The turns
 
 module _ (s : List ℕ) (told : Circuit) (a : Accepted s told) (lenders : List ℕ) where
@@ -120,36 +127,114 @@ module _ (s : List ℕ) (told : Circuit) (a : Accepted s told) (lenders : List �
   wired : Wired (a .circuit)
   wired = read-wired s (a .is)
 
-  same : stepsIn s ≡ is
+  same : stepsOf (readCircuit s) ≡ is
   same = ap stepsOf (a .is)
 
-  -- the heads are those after what is written, and what is still to be written is the rest of the order
-  pub record Going (old : List ℕ) (from : ℕ) (all indices out : List ℕ) (to left : ℕ) : Type 0 where
-    pub written : List ℕ
-    pub kept : Written C ps written
-    pub heads : (x : ℕ) → x < a .circuit .width → Head is written x (getD indices x 0)
-    pub sized : length indices ≡ mostWires
-    pub rest : Remaining old from all out to (stepsBytes (inOrder q is (restOn C ps left written)))
+  module _ {forms firsts seconds places : List ℕ} (notes : Notes s (stepsOf (readCircuit s)) forms firsts seconds places) where
+    -- what is kept of an instruction
+    noted : (k : ℕ) (i : Instruction) → getElem? is k ≡ some i
+        → Noted s (getD places k 0) (mostInstructions - k) (getD places (k + 1) 0) i (getD forms k 0) (getD firsts k 0) (getD seconds k 0)
+    noted k i e = notes .each k i (subst (λ z. getElem? z k ≡ some i) (sym same) e)
 
-  module _ {forms firsts seconds places : List ℕ} (notes : Notes s (length (stepsIn s)) forms firsts seconds places) where
+    wire-low : (k : ℕ) {i : Instruction} → getElem? is k ≡ some i → (x : ℕ) → In x (linesOf i) → x < a .circuit .width
+    wire-low k e x h = ltb-true x (a .circuit .width) (wired .named x k (wire-on is k e x h))
+
     tab : Tabled is (told .instructions) forms firsts seconds
-    tab = noted-tabled s a notes
+    tab = record {
+      all = sym (a .instructions);
+      named = λ x k o. omega (arith, ltb-true x (a .circuit .width) (wired .named x k o), read-valid s (a .is) .narrow);
+      form = λ k i e. noted k i e .form-is;
+      first = λ k i e. noted k i e .first-is;
+      second = λ k i e. noted k i e .second-is;
+    }
 
-    pub going-start : {old : List ℕ} {from : ℕ} {all indices afterFirsts afterSeconds : List ℕ} → all ≡ stepsBytes (dynamicSteps lenders (a .circuit))
+    pub notes-low : Low (told .instructions) firsts seconds
+    notes-low k l =
+        let it = there is k (omega (arith, a .instructions)) in
+        let n = noted k (it .0) (it .1) in (
+          omega (arith, n .first-is, wire-low k (it .1) (firstWire (it .0)) (first-in (it .0)), read-valid s (a .is) .narrow),
+          omega (arith, n .second-is, wire-low k (it .1) (secondWire (it .0)) (second-in (it .0)), read-valid s (a .is) .narrow),
+        )
+
+    -- what the search for the next instruction is given fits
+    pub fitting : {indices candidates : List ℕ} → length lenders ≡ mostWires → length indices ≡ mostWires → length candidates ≡ mostWires
+        → Fit told lenders indices candidates firsts seconds
+    fitting l i k = record {
+      sized-lenders = l;
+      sized-indices = i;
+      sized = k;
+      narrow = omega (arith, a .width, read-valid s (a .is) .narrow);
+      few = omega (arith, a .instructions, read-valid s (a .is) .few);
+      low = notes-low;
+    }
+
+    -- a wire is one of its head's
+    owns : (indices written : List ℕ) → ((x : ℕ) → x < mostWires → Head is written x (getD indices x 0)) → (x : ℕ) → x < mostWires
+        → getD indices x 0 < told .instructions → (x ≡ getD firsts (getD indices x 0) 0) ⊎ (x ≡ getD seconds (getD indices x 0) 0)
+    owns indices written heads x b l =
+        let k = getD indices x 0 in
+        let it = there is k (omega (arith, a .instructions)) in
+        let n = noted k (it .0) (it .1) in
+        elim (on-wire is k (it .1) x (heads x b .here (omega (arith, a .instructions)))) [
+          | inl e ↦ inl (e ∙ sym (n .first-is))
+          | inr e ↦ inr (e ∙ sym (n .second-is))
+        ]
+
+    -- a wire that has a head is below the width
+    narrow-head : (indices written : List ℕ) → ((x : ℕ) → x < mostWires → Head is written x (getD indices x 0)) → (x : ℕ) → x < mostWires
+        → candidate lenders indices told forms firsts seconds x ≡ true → x < a .circuit .width
+    narrow-head indices written heads x b m =
+        ltb-true x (a .circuit .width) (wired .named x (getD indices x 0) (heads x b .here (omega (arith, may-tells lenders indices told forms firsts seconds x m .inside, a .instructions))))
+
+    -- the heads are those after what is written, what is kept of each wire is its candidate, and what is still to be written is the rest of the order
+    pub record Going (old : List ℕ) (from : ℕ) (all indices candidates out : List ℕ) (to left : ℕ) : Type 0 where
+      pub written : List ℕ
+      pub kept : Written C ps written
+      pub heads : (x : ℕ) → x < mostWires → Head is written x (getD indices x 0)
+      pub sized : length indices ≡ mostWires
+      pub sized-candidates : length candidates ≡ mostWires
+      pub right : (x : ℕ) → x < mostWires → getD candidates x 0 ≡ candidateOf lenders indices told forms firsts seconds x
+      pub rest : Remaining old from all out to (stepsBytes (inOrder q is (restOn C ps left written)))
+
+    pub going-start : {old : List ℕ} {from : ℕ} {all indices candidates afterFirsts afterSeconds : List ℕ} → all ≡ stepsBytes (dynamicSteps lenders (a .circuit))
         → from + length all ≤ length old → length indices ≡ mostWires
-        → ((is : List Instruction) → Tabled is (told .instructions) forms firsts seconds → Linked is 0 indices afterFirsts afterSeconds)
-        → Going old from all indices old from (told .instructions)
-    going-start {old} {from} {all} e room size linked = record {
+        → ((is : List Instruction) (forms : List ℕ) → Tabled is (told .instructions) forms firsts seconds → Linked is 0 indices afterFirsts afterSeconds)
+        → candidates ≡ triedBelow lenders indices told forms firsts seconds (told .width) (replicate mostWires (told .instructions))
+        → Going old from all indices candidates old from (told .instructions)
+    going-start {old} {from} {all} {indices} {candidates} e room size linked found = record {
       written = [];
       kept = written-none C ps;
-      heads = λ x l. head-first is x (linked is tab .heads x (omega (arith, read-valid s (a .is) .narrow)));
+      heads = heads;
       sized = size;
+      sized-candidates = ap length found ∙ better .sized;
+      right = λ x b. ap (λ z. getD z x 0) found ∙ elim (below-or-not x (told .width)) [
+        | inl l ↦ below-right lenders indices told forms firsts seconds notes-low own (told .width) start start-sized narrow x l
+        | inr l ↦ better .kept x (getD-replicate mostWires x (told .instructions) 0 b ∙ sym (rw (refuted _ (λ m. let z = narrow-head indices [] heads x b m in omega (arith, a .width)))))
+      ];
       rest = subst (λ z. Remaining old from all old from z)
           (e ∙ ap (λ ks. stepsBytes (inOrder q is ks)) (rest-all C ps ∙ ap (λ n. restOn C ps n []) (sym (a .instructions))))
           (remaining-start room);
     }
+      where
+        heads : (x : ℕ) → x < mostWires → Head is [] x (getD indices x 0)
+        heads x b = head-first is x (linked is forms tab .heads x b)
 
-    module _ {old : List ℕ} {from : ℕ} {all indices out : List ℕ} {to left : ℕ} (g : Going old from all indices out to left) where
+        own : (x : ℕ) → x < mostWires → getD indices x 0 < told .instructions → (x ≡ getD firsts (getD indices x 0) 0) ⊎ (x ≡ getD seconds (getD indices x 0) 0)
+        own = owns indices [] heads
+
+        start : List ℕ
+        start = replicate mostWires (told .instructions)
+
+        start-sized : length start ≡ mostWires
+        start-sized = length-replicate mostWires (told .instructions)
+
+        narrow : told .width ≤ mostWires
+        narrow = omega (arith, a .width, read-valid s (a .is) .narrow)
+
+        better : Better lenders indices told forms firsts seconds notes-low own start (triedBelow lenders indices told forms firsts seconds (told .width) start)
+        better = better-below lenders indices told forms firsts seconds notes-low own (told .width) start start-sized narrow
+
+    module _ {old : List ℕ} {from : ℕ} {all indices candidates out : List ℕ} {to left : ℕ} (g : Going old from all indices candidates out to left) where
       ended : restOn C ps left (g .written) ≡ [] → Wrote old from all out to
       ended e = remaining-end (ap stepsBytes (order-none q is (restOn C ps left (g .written)) e)) (g .rest)
 
@@ -157,111 +242,151 @@ module _ (s : List ℕ) (told : Circuit) (a : Accepted s told) (lenders : List �
       pub going-end : left ≡ 0 → Wrote old from all out to
       going-end e = ended (ap (λ n. restOn C ps n (g .written)) e ∙ rest-none C ps (g .written))
 
-      module _ {best : ℕ} (chooses : (is : List Instruction) → Tabled is (told .instructions) forms firsts seconds → Chooses told (candidate lenders indices told is) indices best) where
-        abbrev ch : Chooses told (candidate lenders indices told is) indices best
-        ch = chooses is tab
+      abbrev below-heads : (x : ℕ) → x < a .circuit .width → Head is (g .written) x (getD indices x 0)
+      below-heads x l = g .heads x (omega (arith, read-valid s (a .is) .narrow))
 
+      module _ {index : ℕ} (least : Least candidates mostWires index) where
         -- what is ready is no lower than what was chosen
-        no-lower : (m : ℕ) → m < length is → ready C ps (g .written) m ≡ true → ch .0 ≤ m
+        no-lower : (m : ℕ) → m < length is → ready C ps (g .written) m ≡ true → index ≤ m
         no-lower m l r =
-            let x = ready-may (a .circuit) wired lenders indices told (a .width) (a .instructions) (g .written) (g .kept) (g .heads) m l r in
-            omega (arith, ch .1 .least (x .0) (omega (arith, x .1, a .width)) (x .3), x .2)
+            let x = ready-may (a .circuit) wired lenders indices told (a .width) (a .instructions) (g .written) (g .kept) tab below-heads m l r in
+            let b : x .0 < mostWires = omega (arith, x .1, read-valid s (a .is) .narrow) in
+            let e : getD candidates (x .0) 0 ≡ getD indices (x .0) 0 = g .right (x .0) b ∙ rw (x .3) in
+            omega (arith, least .least (x .0) b, x .2)
 
         -- where nothing was chosen nothing is ready
-        pub going-stuck : told .width ≤ best → Wrote old from all out to
-        going-stuck b = elim (ch .1 .either) [
-          | inl e ↦ elim (below-or-not (next C ps (g .written)) (length is)) [
-            | inl l ↦ (let z = no-lower (next C ps (g .written)) l (next-ready C ps (g .written) l) in absurd (omega (arith, e .1, a .instructions)))
-            | inr l ↦ ended (rest-stuck C ps left (g .written) l)
-          ]
-          | inr e ↦ absurd (omega (arith, e .0))
+        pub going-stuck : told .instructions ≤ index → Wrote old from all out to
+        going-stuck b = elim (below-or-not (next C ps (g .written)) (length is)) [
+          | inl l ↦ (let z = no-lower (next C ps (g .written)) l (next-ready C ps (g .written) l) in absurd (omega (arith, a .instructions)))
+          | inr l ↦ ended (rest-stuck C ps left (g .written) l)
         ]
 
-        module _ (b : best < told .width) {index : ℕ} (i : index ≡ getD indices best 0) where
-          chosen-may : candidate lenders indices told is best ≡ true
-          chosen-may = elim (ch .1 .either) [
-            | inl e ↦ absurd (omega (arith, e .0))
-            | inr e ↦ e .1
-          ]
-
-          chosen-lowest : ch .0 ≡ getD indices best 0
-          chosen-lowest = elim (ch .1 .either) [ inl e ↦ absurd (omega (arith, e .0)) | inr e ↦ sym (e .2) ]
-
-          -- the head chosen is an instruction, and is ready
-          pub chosen-inside : index < length is
-          unfolding candidate
-          chosen-inside = subst (λ k. k < length is) (sym i) (at-inside (λ j. mayWrite lenders indices told (getD indices best 0) (touchedOf j)) is (getD indices best 0) chosen-may)
-
+        module _ (b : index < told .instructions) where
           pub chosen-below : index < mostInstructions
-          chosen-below = omega (arith, chosen-inside, read-valid s (a .is) .few)
+          chosen-below = omega (arith, a .instructions, read-valid s (a .is) .few)
+
+          chosen-inside : index < length is
+          chosen-inside = omega (arith, a .instructions)
+
+          -- a wire whose head is chosen
+          chosen-wire : (x : ℕ) × (x < mostWires) × (candidate lenders indices told forms firsts seconds x ≡ true) × (getD indices x 0 ≡ index)
+          chosen-wire =
+              let x = least .one .0 in
+              elim (true-or-false (candidate lenders indices told forms firsts seconds x)) [
+                | inl m ↦ (x, least .one .1, m, sym (g .right x (least .one .1) ∙ rw m) ∙ least .one .2)
+                | inr m ↦ (let z : getD candidates x 0 ≡ told .instructions = g .right x (least .one .1) ∙ rw m in absurd (omega (arith, least .one .2)))
+              ]
 
           chosen-ready : ready C ps (g .written) index ≡ true
-          chosen-ready = subst (λ k. ready C ps (g .written) k ≡ true) (sym i)
-              (may-ready (a .circuit) wired lenders indices told (a .width) (a .instructions) (g .written) (g .kept) (g .heads) best (omega (arith, a .width)) chosen-may)
+          chosen-ready =
+              let x = chosen-wire in
+              subst (λ k. ready C ps (g .written) k ≡ true) (x .3)
+              (may-ready (a .circuit) wired lenders indices told (a .width) (a .instructions) (g .written) (g .kept) tab below-heads (x .0) (narrow-head indices (g .written) (g .heads) (x .0) (x .1) (x .2)) (x .2))
 
           -- so it is what comes next
           chosen-next : next C ps (g .written) ≡ index
           chosen-next = next-is C ps (g .written) index chosen-inside
-              (λ m l. refuted _ (λ r. let z = no-lower m (omega (arith, chosen-inside)) r in omega (arith, chosen-lowest)))
+              (λ m l. refuted _ (λ r. let z = no-lower m (omega (arith, chosen-inside)) r in omega arith))
               chosen-ready
 
-          module _ {place : ℕ} (p : place ≡ getD places index 0) where
-            pub chosen-stands : Stands s index place
-            chosen-stands = rw p (notes .stands index (omega (arith, chosen-inside, ap length same)))
+          abbrev it : Instruction
+          it = there is index chosen-inside .0
 
-            pub not-over : stepAt s place (mostInstructions - index) ≡ done end → ⊥
-            not-over e = omega (arith, stands-last s index place chosen-stands e, chosen-inside, ap length same)
+          this : getElem? is index ≡ some it
+          this = there is index chosen-inside .1
 
-            module _ {it : Instruction} {after : ℕ} (e : stepAt s place (mostInstructions - index) ≡ done (step it after)) where
-              this : getElem? is index ≡ some it
-              this = subst (λ z. getElem? z index ≡ some it) same (stands-next s index place chosen-stands e .this)
+          chosen-noted : Noted s (getD places index 0) (mostInstructions - index) (getD places (index + 1) 0) it (getD forms index 0) (getD firsts index 0) (getD seconds index 0)
+          chosen-noted = noted index it this
 
-              wire-low : (x : ℕ) → In x (wiresOf (touchedOf it)) → x < a .circuit .width
-              wire-low x h = ltb-true x (a .circuit .width) (wired .named x index (wire-on is index this x h))
+          order : 0 < left → restOn C ps left (g .written) ≡ index ∷ restOn C ps (left - 1) (g .written ++ index ∷ [])
+          order l =
+              let z : left ≡ suc (left - 1) = omega arith in
+              ap (λ n. restOn C ps n (g .written)) z ∙ rest-more C ps (left - 1) (g .written) (omega (arith, chosen-next, chosen-inside))
+              ∙ ap (λ k. k ∷ restOn C ps (left - 1) (g .written ++ k ∷ [])) chosen-next
 
-              in-reach : (x : ℕ) → In x (wiresOf (touchedOf it)) → x < length indices
-              in-reach x h = omega (arith, wire-low x h, read-valid s (a .is) .narrow, g .sized)
+          -- it is the first of what is still to be written
+          comes-first : 0 < left → Remaining old from all out to (instructionBytes (renamed q it) ++ stepsBytes (inOrder q is (restOn C ps (left - 1) (g .written ++ index ∷ []))))
+          comes-first l = subst (λ z. Remaining old from all out to (stepsBytes z)) (ap (inOrder q is) (order l) ∙ order-next q is index _ this) (g .rest)
 
-              -- the head of one of its wires is the next on the wire
-              head-of-wire : (x : ℕ) → In x (wiresOf (touchedOf it)) → {k : ℕ} → NextOn is x (index + 1) k → Head is (g .written ++ index ∷ []) x k
-              head-of-wire x h n = head-moved is x (g .written) index
-                  (subst (Head is (g .written) x)
-                  (ready-head (a .circuit) wired lenders indices told (a .width) (a .instructions) (g .written) (g .kept) (g .heads) index chosen-ready x (wire-on is index this x h))
-                  (g .heads x (wire-low x h)))
-                  n
+          -- and there is room for it
+          chosen-room : 0 < left → to + (getD places (index + 1) 0 - getD places index 0) ≤ length out
+          chosen-room l =
+              let fits = simp length-append at (remaining-fits (comes-first l)) in
+              omega (arith, noted-length chosen-noted, renamed-length q it)
 
-              module _ {afterFirsts afterSeconds started newIndices : List ℕ} {t : Touched}
-                  (linked : (is : List Instruction) → Tabled is (told .instructions) forms firsts seconds → Linked is 0 started afterFirsts afterSeconds)
-                  (touched : t ≡ touchedOf it) (set : newIndices ≡ headed t (getD afterFirsts index 0) (getD afterSeconds index 0) indices) where
-                new-heads : (x : ℕ) → x < a .circuit .width → Head is (g .written ++ index ∷ []) x (getD newIndices x 0)
-                new-heads x l =
-                    let links = linked is tab in
-                    subst (λ z. Head is (g .written ++ index ∷ []) x (getD z x 0))
-                    (sym (set ∙ ap (λ u. headed u (getD afterFirsts index 0) (getD afterSeconds index 0) indices) touched))
-                    (headed-each (λ y k. Head is (g .written ++ index ∷ []) y k) (touchedOf it) (getD afterFirsts index 0) (getD afterSeconds index 0) indices
-                    (in-reach _ (first-in (touchedOf it))) (in-reach _ (second-in (touchedOf it)))
-                    (head-of-wire _ (first-in (touchedOf it)) (links .after-first index it (omega arith) this))
-                    (head-of-wire _ (second-in (touchedOf it)) (links .after-second index it (omega arith) this))
-                    x (λ n. head-kept is x (g .written) index (wire-off is index this x n) (g .heads x l)))
+          -- what is kept of it, by the places that are told
+          module _ {at after : ℕ} (at-is : at ≡ getD places index 0) (after-is : after ≡ getD places (index + 1) 0) where
+            told-noted : Noted s at (mostInstructions - index) after it (getD forms index 0) (getD firsts index 0) (getD seconds index 0)
+            told-noted = rw (at-is, after-is) chosen-noted
 
-                pub going-on : (numbers : List ℕ) {new : List ℕ} {is-written : Instruction} {stop : ℕ} → 0 < left → Renames lenders (told .width) numbers
-                    → is-written ≡ renamed (λ x. getD numbers x 0) it → Placed out to (recordBytes (Step is-written)) new stop
-                    → Going old from all newIndices new stop (left - 1)
-                going-on numbers {new} {is-written} {stop} l r named placed = record {
-                  written = g .written ++ index ∷ [];
-                  kept = written-more C (circuit-lawful (a .circuit) wired) ps (g .written) index (g .kept) chosen-inside chosen-ready;
-                  heads = new-heads;
-                  sized = ap length set ∙ headed-length t _ _ indices ∙ g .sized;
-                  rest = remaining-placed (stepsBytes (inOrder q is (restOn C ps (left - 1) (g .written ++ index ∷ []))))
-                      (subst (λ z. Placed out to (instructionBytes z) new stop) (named ∙ renamed-same _ q it agree) placed)
-                      (subst (λ z. Remaining old from all out to (stepsBytes z)) (ap (inOrder q is) (order l) ∙ order-next q is index _ this) (g .rest));
-                }
-                  where
-                    agree : (x : ℕ) → In x (linesOf it) → getD numbers x 0 ≡ q x
-                    agree x h = r x (omega (arith, wire-low x (subst (In x) (sym (wires-lines it)) h), read-valid s (a .is) .narrow)) ∙ ap (λ w. qubitOf lenders w x) (a .width)
+            pub chosen-there : (i : Instruction) × (n : ℕ) × Noted s at n after i (getD forms index 0) (getD firsts index 0) (getD seconds index 0)
+            chosen-there = (it, mostInstructions - index, told-noted)
 
-                    order : 0 < left → restOn C ps left (g .written) ≡ index ∷ restOn C ps (left - 1) (g .written ++ index ∷ [])
-                    order l =
-                        let z : left ≡ suc (left - 1) = omega arith in
-                        ap (λ n. restOn C ps n (g .written)) z ∙ rest-more C ps (left - 1) (g .written) (omega (arith, chosen-next, chosen-inside))
-                        ∙ ap (λ k. k ∷ restOn C ps (left - 1) (g .written ++ k ∷ [])) chosen-next
+            pub told-room : 0 < left → to + (after - at) ≤ length out
+            told-room l = rw (at-is, after-is) (chosen-room l)
+
+          resets : (k : ℕ) → k < told .instructions → getD forms k 0 ≡ 0 → getD firsts k 0 ≡ getD seconds k 0
+          resets k l r =
+              let i = there is k (omega (arith, a .instructions)) in
+              let n = noted k (i .0) (i .1) in
+              n .first-is ∙ reset-wire (i .0) (sym (n .form-is) ∙ r) ∙ sym (n .second-is)
+
+          below-width : (k : ℕ) → k < told .instructions → getD firsts k 0 < told .width
+          below-width k l =
+              let i = there is k (omega (arith, a .instructions)) in
+              omega (arith, noted k (i .0) (i .1) .first-is, wire-low k (i .1) (firstWire (i .0)) (first-in (i .0)), a .width)
+
+          -- the head of one of its wires is the instruction, and then the next on the wire
+          was-head : (x : ℕ) → In x (linesOf it) → getD indices x 0 ≡ index
+          was-head x h = ready-head (a .circuit) wired lenders indices told (a .width) (a .instructions) (g .written) (g .kept) tab below-heads index chosen-ready x (wire-on is index this x h)
+
+          head-of-wire : (x : ℕ) → In x (linesOf it) → {k : ℕ} → NextOn is x (index + 1) k → Head is (g .written ++ index ∷ []) x k
+          head-of-wire x h n = head-moved is x (g .written) index (subst (Head is (g .written) x) (was-head x h) (below-heads x (wire-low index this x h))) n
+
+          module _ {afterFirsts afterSeconds started newIndices : List ℕ}
+              (linked : (is : List Instruction) (forms : List ℕ) → Tabled is (told .instructions) forms firsts seconds → Linked is 0 started afterFirsts afterSeconds)
+              (set : newIndices ≡ headed (getD firsts index 0) (getD seconds index 0) (getD afterFirsts index 0) (getD afterSeconds index 0) indices) where
+            new-heads : (x : ℕ) → x < mostWires → Head is (g .written ++ index ∷ []) x (getD newIndices x 0)
+            new-heads x l =
+                let links = linked is forms tab in
+                let n = chosen-noted in
+                let low = notes-low index b in
+                subst (λ z. Head is (g .written ++ index ∷ []) x (getD z x 0)) (sym set)
+                (headed-each (λ y k. Head is (g .written ++ index ∷ []) y k) (getD firsts index 0) (getD seconds index 0) (getD afterFirsts index 0) (getD afterSeconds index 0) indices
+                (omega (arith, low .0, g .sized)) (omega (arith, low .1, g .sized))
+                (subst (λ y. Head is (g .written ++ index ∷ []) y (getD afterFirsts index 0)) (sym (n .first-is)) (head-of-wire _ (first-in it) (links .after-first index it (omega arith) this)))
+                (subst (λ y. Head is (g .written ++ index ∷ []) y (getD afterSeconds index 0)) (sym (n .second-is)) (head-of-wire _ (second-in it) (links .after-second index it (omega arith) this)))
+                x (λ f s'. head-kept is x (g .written) index (wire-off is index this x (λ e. f (e ∙ sym (n .first-is))) (λ e. s' (e ∙ sym (n .second-is)))) (g .heads x l)))
+
+            new-right : {newCandidates : List ℕ} → newCandidates ≡ triedBoth lenders newIndices told forms firsts seconds (getD firsts index 0) (getD seconds index 0) candidates
+                → (x : ℕ) → x < mostWires → getD newCandidates x 0 ≡ candidateOf lenders newIndices told forms firsts seconds x
+            new-right {newCandidates} e x l =
+                let n = chosen-noted in
+                let moved = headed (getD firsts index 0) (getD seconds index 0) (getD afterFirsts index 0) (getD afterSeconds index 0) indices in
+                ap (λ z. getD z x 0) e
+                ∙ subst (λ z. getD (triedBoth lenders z told forms firsts seconds (getD firsts index 0) (getD seconds index 0) candidates) x 0 ≡ candidateOf lenders z told forms firsts seconds x) (sym set)
+                (moves-right lenders told forms firsts seconds notes-low (omega (arith, a .width, read-valid s (a .is) .narrow)) below-width resets indices (g .sized) index _ _ b
+                (owns moved (g .written ++ index ∷ []) (λ y k. subst (λ z. Head is (g .written ++ index ∷ []) y (getD z y 0)) set (new-heads y k)))
+                (ap (λ z. getD indices z 0) (n .first-is) ∙ was-head _ (first-in it)) (ap (λ z. getD indices z 0) (n .second-is) ∙ was-head _ (second-in it))
+                candidates (g .sized-candidates) (g .right) x l)
+
+            pub going-on : (numbers : List ℕ) {newCandidates new : List ℕ} {stop : ℕ} → 0 < left → Renames lenders (told .width) numbers
+                → newCandidates ≡ triedBoth lenders newIndices told forms firsts seconds (getD firsts index 0) (getD seconds index 0) candidates
+                → {at after : ℕ} → at ≡ getD places index 0 → after ≡ getD places (index + 1) 0
+                → ((i : Instruction) (n : ℕ) → Noted s at n after i (getD forms index 0) (getD firsts index 0) (getD seconds index 0)
+                → Wrote out to (instructionBytes (renamed (λ x. getD numbers x 0) i)) new stop)
+                → Going old from all newIndices newCandidates new stop (left - 1)
+            going-on numbers {newCandidates} {new} {stop} l r tried-again at-is after-is wrote = record {
+              written = g .written ++ index ∷ [];
+              kept = written-more C (circuit-lawful (a .circuit) wired) ps (g .written) index (g .kept) chosen-inside chosen-ready;
+              heads = new-heads;
+              sized = ap length set ∙ headed-length _ _ _ _ indices ∙ g .sized;
+              sized-candidates = ap length tried-again ∙ both-length lenders newIndices told forms firsts seconds _ _ candidates ∙ g .sized-candidates;
+              right = new-right tried-again;
+              rest = remaining-call (stepsBytes (inOrder q is (restOn C ps (left - 1) (g .written ++ index ∷ []))))
+                  (subst (λ z. Wrote out to (instructionBytes z) new stop) (renamed-same _ q it agree) (wrote it (mostInstructions - index) (told-noted at-is after-is)))
+                  (comes-first l);
+            }
+              where
+                agree : (x : ℕ) → In x (linesOf it) → getD numbers x 0 ≡ q x
+                agree x h = ap (λ z. getD z x 0) r ∙ getD-each mostWires _ x (omega (arith, wire-low index this x h, read-valid s (a .is) .narrow)) ∙ ap (λ w. qubitOf lenders w x) (a .width)

@@ -8,21 +8,16 @@ use Rattle.writing.specs.Writing.{Wrote, Placed}
 use Rattle.writing.proofs.Puts.{placed-wrote, placed-length, wrote-on}
 use Rattle.records.specs.Bytes.{recordBytes}
 use Rattle.records.specs.declared.instructions.Record.the-variants.{DynamicWidth}
-use Rattle.circuits.specs.Limits.{mostWires, mostInstructions, headerLength}
+use Rattle.circuits.specs.Limits.{mostWires, mostInstructions}
 use Rattle.circuits.specs.Reading.{readCircuit}
 use Rattle.circuits.specs.Validity.{stepsBytes}
 use Rattle.circuits.specs.declared.circuit.Circuit.{Circuit}
-use Rattle.circuits.proofs.Rewrites.{Accepted, steps-stand}
+use Rattle.circuits.proofs.Rewrites.{Accepted}
 use Rattle.circuits.proofs.Validity.{read-valid}
 use Rattle.writer.specs.Chains.{qubits}
 use Rattle.writer.specs.Outputs.{outputOf, dynamicIn}
-use Rattle.writer.specs.Heads.{Stands}
 
 module _ (s : List ℕ) (told : Circuit) (a : Accepted s told) where
-  -- the first instruction stands behind the header
-  pub first-stands : Stands s 0 headerLength
-  first-stands = record { inside = omega arith; few = omega arith; steps = steps-stand s a }
-
   pub few-wires : told .width ≤ mostWires
   few-wires = omega (arith, a .width, read-valid s (a .is) .narrow)
 

@@ -1,10 +1,11 @@
 -- The dynamic circuit: the instructions in the order of writing, renamed, behind their 02 record. Definitions alone.
-use Prim.Native.Nat.{ℕ, _<_}
+use Prim.Native.Nat.{ℕ, _-_}
 use mathlib.Core.Path.{_≡_}
 use mathlib.Core.List.{List, [], _∷_, _++_}
 use mathlib.Core.Option.{Option, none, some}
-use lib.ListN.{getD, getElem?}
+use lib.ListN.{getElem?, take, drop}
 use Rattle.basics.specs.Outcome.{Outcome, done, refused}
+use Rattle.bits.specs.Bits.{each}
 use Rattle.orders.specs.Schedule.{schedule}
 use Rattle.records.specs.Records.{line}
 use Rattle.records.specs.Bytes.{recordBytes}
@@ -18,6 +19,10 @@ use Rattle.circuits.specs.Validity.{stepsBytes}
 use Rattle.precedence.specs.Precedence.{circuitOf}
 use Rattle.pairs.specs.Lending.{pairsOf}
 use Rattle.writer.specs.Chains.{qubitOf, qubits}
+
+-- the bytes from a place up to the next
+abbrev pub behind : List ℕ → ℕ → ℕ → List ℕ
+behind s from next = take (next - from) (drop from s)
 
 -- a line by its number's new number
 abbrev pub renumbered : (ℕ → ℕ) → Line → Line
@@ -34,7 +39,7 @@ renamed q (AngledTwoLineGate k l m a) = AngledTwoLineGate k (renumbered q l) (re
 
 -- the numbers are the qubits of the wires, one after the other
 abbrev pub Renames : List ℕ → ℕ → List ℕ → Type 0
-Renames lenders width numbers = (x : ℕ) → x < mostWires → getD numbers x 0 ≡ qubitOf lenders width x
+Renames lenders width numbers = numbers ≡ each mostWires (qubitOf lenders width)
 
 -- an instruction, where there is one, renamed before others
 abbrev pub leading : (ℕ → ℕ) → Option Instruction → List Instruction → List Instruction

@@ -3,6 +3,7 @@
 mod chaining;
 mod choosing;
 mod compiling;
+mod copying;
 mod dynamic;
 mod noting;
 mod renaming;

@@ -4,8 +4,6 @@ use crate::chaining::first_of;
 use crate::chaining::firsts_below;
 use circuits::Circuit;
 use pairs::Lenders;
-use records::Instruction;
-use records::Line;
 use records::Qubit;
 use records::Wire;
 ghost use mathlib.Core.Path.{_≡_};
@@ -14,7 +12,7 @@ ghost use lib.ListN.{getD, length};
 ghost use Rattle.bits.specs.Bits.{each};
 ghost use Rattle.circuits.specs.Limits.{mostWires};
 ghost use Rattle.writer.specs.Chains.{firstsBelow, qubitOf, Tells};
-ghost use Rattle.writer.specs.Outputs.{renumbered, renamed, Renames};
+ghost use Rattle.writer.specs.Outputs.{Renames};
 
 // No qubit's number.
 const UNKNOWN: u8 = 255;
@@ -108,52 +106,11 @@ impl Renaming {
         Renaming { qubits }
     }
 
-    // The qubit of a wire; 0 past the last wire.
-    fn qubit(self, wire: Wire) -> Qubit
+    // The qubit of a wire.
+    pub(crate) fn qubit(self, wire: Wire) -> Qubit
+        requires { ⌜ wire .0 < mostWires ⌝ }
         ensures { λ r. ⌜ r .0 ≡ getD (self .qubits) (wire .0) 0 ⌝ }
     {
-        let n = wire.0 as usize;
-        if n < Circuit::MOST_WIRES {
-            return Qubit(self.qubits[n]);
-        }
-        Qubit(0)
-    }
-
-    // A wire's line becomes its qubit's line.
-    fn renumber(self, line: Line) -> Line
-        ensures { λ r. ⌜ r ≡ renumbered (λ x. getD (self .qubits) x 0) line ⌝ }
-    {
-        Line(self.qubit(Wire(line.0)).0)
-    }
-
-    // An instruction on qubits instead of wires, all else as it was.
-    pub fn rename(self, i: Instruction) -> Instruction
-        ensures { λ r. ⌜ r ≡ renamed (λ x. getD (self .qubits) x 0) i ⌝ }
-    {
-        match i {
-            Instruction::Reset(line) => Instruction::Reset(self.renumber(line)),
-            Instruction::Measurement(line, bit) => Instruction::Measurement(
-                self.renumber(line),
-                bit,
-            ),
-            Instruction::Gate(kind, line) => Instruction::Gate(kind, self.renumber(line)),
-            Instruction::AngledGate(kind, line, angle) => Instruction::AngledGate(
-                kind,
-                self.renumber(line),
-                angle,
-            ),
-            Instruction::TwoLineGate(kind, first, second) => Instruction::TwoLineGate(
-                kind,
-                self.renumber(first),
-                self.renumber(second),
-            ),
-            Instruction::AngledTwoLineGate(kind, first, second, angle) =>
-                Instruction::AngledTwoLineGate(
-                    kind,
-                    self.renumber(first),
-                    self.renumber(second),
-                    angle,
-                ),
-        }
+        Qubit(self.qubits[wire.0 as usize])
     }
 }

@@ -32,13 +32,13 @@ returns : tie.Need-returns
 returns c =
     let known = sym (ap readingOf (c .before .before .r .given .1)) ∙ c .before .before .before .before .read .ensures in
     let e = ap tableAtStart (turned-away _ known) in
-    (sym e, c .empty .ensures ∙ ap (beside emptyTable) (sym e), known)
+    (sym e, c .empty .ensures ∙ ap (beside emptyTable) (sym e))
 
 returns-2 : tie.Need-returns-2
 returns-2 c =
     let known = sym (ap readingOf (c .before .before .before .valid .given .1)) ∙ c .before .before .before .before .before .read .ensures in
     let e = start-told _ (accepted _ known) (c .before .all-sets .ensures) (c .table-from .ensures) in
-    (sym e, ap (beside emptyTable) (sym e), known)
+    (sym e, ap (beside emptyTable) (sym e))
 
 pub start-spec : {M : Type 1} → statement M
 start-spec =

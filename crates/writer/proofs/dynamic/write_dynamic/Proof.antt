@@ -1,7 +1,7 @@
--- `writer::dynamic::write_dynamic` meets its contract: the 02 record, and behind it the instructions in their order. Assumes nothing.
-use borrow.Author.Needs.{needs}
+-- `writer::dynamic::write_dynamic` meets its contract: the 02 record and the instructions behind it. Assumes nothing.
 use Rattle.circuits.proofs.Rewrites.{accepted}
 use Rattle.writer.proofs.Written.{steps-fit, wrote-output}
+use borrow.Author.Needs.{needs}
 use Rattle.writer.proofs.dynamic.write_dynamic.Statement.{statement}
 use Rattle.writer.proofs.dynamic.write_dynamic.Tie as tie
 
@@ -12,15 +12,15 @@ write-record-requires : tie.Need-write-record-requires
 write-record-requires c κs = search needs
 
 write-steps-requires : tie.Need-write-steps-requires
-write-steps-requires c κs = let a = accepted _ (c .before .before .before .before .before .before .before .before .pre .0) in
-    (c .before .before .before .before .before .before .before .before .pre .0, steps-fit _ _ a _ (c .before .before .before .before .before .qubits-for .ensures) (c .before .before .before .write-record .ensures) (c .before .before .before .before .before .before .before .before .pre .1))
+write-steps-requires c κs = let p = c .before .before .before .before .before .before .before .before in let a = accepted _ (p .pre .0) in
+    (p .pre .0, (p .pre .1 .0, steps-fit _ _ a _ (c .before .before .before .before .before .qubits-for .ensures) (c .before .before .before .write-record .ensures) (p .pre .1 .1)))
 
 same-length : tie.Need-same-length
 same-length c = search needs
 
 returns : tie.Need-returns
-returns c = let a = accepted _ (c .before .before .before .before .before .before .before .before .before .before .before .pre .0) in
-    wrote-output _ _ a _ (c .before .before .before .before .before .before .before .before .qubits-for .ensures) (c .before .before .before .before .before .before .write-record .ensures) (c .before .before .before .before .before .before .before .before .before .before .before .pre .1) (c .before .before .write-steps .ensures)
+returns c = let p = c .before .before .before .before .before .before .before .before .before .before .before in let a = accepted _ (p .pre .0) in
+    wrote-output _ _ a _ (c .before .before .before .before .before .before .before .before .qubits-for .ensures) (c .before .before .before .before .before .before .write-record .ensures) (p .pre .1 .1) (c .before .before .write-steps .ensures)
 
 pub write-dynamic-spec : {M : Type 1} → statement M
 write-dynamic-spec =

@@ -25,6 +25,9 @@ element-write-seconds c = search needs
 cast-places : tie.Need-cast-places
 cast-places c = search needs
 
+add-places : tie.Need-add-places
+add-places c = search needs
+
 mul-places : tie.Need-mul-places
 mul-places c = search needs
 
@@ -45,6 +48,7 @@ note-spec =
     second-wire-requires
     element-write-seconds
     cast-places
+    add-places
     mul-places
     element-write-places
     returns)

@@ -1,11 +1,7 @@
 -- `writer::seeking::link_one` meets its contract. Assumes nothing.
-
 use borrow.Author.Needs.{needs}
 use Rattle.writer.proofs.seeking.link_one.Statement.{statement}
 use Rattle.writer.proofs.seeking.link_one.Tie as tie
-
-first-wire-requires : tie.Need-first-wire-requires
-first-wire-requires c κs = search needs
 
 of-wire-requires : tie.Need-of-wire-requires
 of-wire-requires c κs = search needs
@@ -15,9 +11,6 @@ mul-after-firsts c = search needs
 
 element-write-after-firsts : tie.Need-element-write-after-firsts
 element-write-after-firsts c = search needs
-
-second-wire-requires : tie.Need-second-wire-requires
-second-wire-requires c κs = search needs
 
 of-wire-requires-2 : tie.Need-of-wire-requires-2
 of-wire-requires-2 c κs = search needs
@@ -32,17 +25,15 @@ set-heads-requires : tie.Need-set-heads-requires
 set-heads-requires c κs = search needs
 
 returns : tie.Need-returns
-returns c = (c .set-heads .ensures, (rw (c .before .before .before .before .before .of-wire .ensures, c .before .before .before .before .before .before .first-wire .ensures), rw (c .before .before .of-wire2 .ensures, c .before .before .before .second-wire .ensures)))
+returns c = (c .set-heads .ensures, (rw (c .before .before .before .before .of-wire .ensures), rw (c .before .before .of-wire2 .ensures)))
 
 pub link-one-spec : {M : Type 1} → statement M
 link-one-spec =
     tie.close
     (tie.spec
-    first-wire-requires
     of-wire-requires
     mul-after-firsts
     element-write-after-firsts
-    second-wire-requires
     of-wire-requires-2
     mul-after-seconds
     element-write-after-seconds

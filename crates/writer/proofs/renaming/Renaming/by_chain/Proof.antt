@@ -5,7 +5,7 @@ use native.Mathlib.Nat.{not-suc-le-zero}
 use native.Mathlib.Omega.{arith}
 use borrow.Author.Needs.{needs}
 use lib.ListN.{length, getD, length-set}
-use Rattle.bits.proofs.Lists.{filled}
+use Rattle.bits.proofs.Lists.{each-eq, filled}
 use Rattle.circuits.specs.Limits.{mostWires}
 use Rattle.writer.specs.Chains.{qubitOf}
 use Rattle.writer.proofs.renaming.Renaming.by_chain.Statement.{statement}
@@ -59,7 +59,7 @@ loop-again c =
     (search needs, simp length-set (h .inv .1), filled (qubitOf (a .lenders .lenders) (a .width)) (h .qubits) (h .x) (c .qubit-of .result .0) (search needs) (h .inv .2) (c .qubit-of .ensures))
 
 returns : tie.Need-returns Inv-loop μ-loop
-returns c = λ x l. c .before .loop .inv .2 x (omega arith)
+returns c = each-eq mostWires _ _ (c .before .loop .inv .1) (λ x l. c .before .loop .inv .2 x (omega arith))
 
 pub by-chain-spec : {M : Type 1} → statement M
 by-chain-spec =
