@@ -26,7 +26,7 @@ use Rattle.circuits.proofs.Turns.{checked-step, reads-end, reads-refuse
 use Rattle.circuits.proofs.Steps.{step-record}
 
 -- so many bytes may be looked at from a place on
-abbrev pub reachOf : ℕ → ℕ → ℕ
+abbrev reachOf : ℕ → ℕ → ℕ
 reachOf left at = at + left * longestRecord
 
 -- a step's record is no longer than the longest

@@ -6,6 +6,8 @@ pub mod Walks
 pub mod Validity
 pub mod Rewrites
 pub mod FirstBytes
+pub mod Passed
+pub mod Unmeasured
 pub mod Refusals
 pub mod Unique
 pub mod Worked

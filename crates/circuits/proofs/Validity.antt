@@ -40,7 +40,7 @@ module _ (s : List ℕ) (width : ℕ) where
       go true t e = absurd (not-refused e)
       go false {is} t e = let z : [] ≡ is = cc in (sym z, subst (Passes width c) z (none (ltb-false _ _ t)))
 
-  checked-end : (at left : ℕ) (c : States) → checkedAt s at left width c ≡ done end → stepAt s at left ≡ done end
+  pub checked-end : (at left : ℕ) (c : States) → checkedAt s at left width c ≡ done end → stepAt s at left ≡ done end
   unfolding checkedAt
   checked-end at left c e = go (stepAt s at left) e
     where
@@ -105,12 +105,12 @@ width-told v w e = go (eqb v 0) (ltb mostWires v) refl refl e
 
 module _ (s : List ℕ) where
   -- a header that was read is the width record
-  record Headed (w : ℕ) : Type 0 where
-    bytes : s ≡ recordBytes (StaticWidth w) ++ drop headerLength s
-    wide : 1 ≤ w
-    narrow : w ≤ mostWires
+  pub record Headed (w : ℕ) : Type 0 where
+    pub bytes : s ≡ recordBytes (StaticWidth w) ++ drop headerLength s
+    pub wide : 1 ≤ w
+    pub narrow : w ≤ mostWires
 
-  header-told : {w : ℕ} → headerOf s ≡ done w → Headed w
+  pub header-told : {w : ℕ} → headerOf s ≡ done w → Headed w
   unfolding headerOf
   header-told e = go (eqb (length s) 0) (staticKind (getD s 0 0)) e
     where
@@ -134,9 +134,6 @@ module _ (s : List ℕ) where
       go true b e = absurd (not-refused e)
       go false true e = answer (recordAt s 0) refl e
       go false false e = absurd (not-refused e)
-
-  pub header-narrow : {w : ℕ} → headerOf s ≡ done w → w ≤ mostWires
-  header-narrow e = header-told e .narrow
 
   told-header : (w : ℕ) (rest : List ℕ) → s ≡ recordBytes (StaticWidth w) ++ rest → 1 ≤ w → w ≤ mostWires → headerOf s ≡ done w
   unfolding headerOf widthRead shapeOf

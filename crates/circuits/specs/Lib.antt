@@ -4,4 +4,5 @@ pub mod Stepping
 pub mod Sketching
 pub mod Reading
 pub mod Validity
+pub mod Places
 pub mod Rewriting

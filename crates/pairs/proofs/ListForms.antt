@@ -79,22 +79,18 @@ module _ (s : List ℕ) where
     unfolding pairAt pairsBytes
     end-there e = let l = ap length e in rw (le-leb (length s) at (omega (arith, length-drop at s)))
 
-    module _ (p : Pair) (ps : List Pair) (e : drop at s ≡ pairsBytes (p ∷ ps)) where
-      here : drop at s ≡ recordBytes (pairRecord p) ++ pairsBytes ps
-      unfolding pairsBytes
-      here = e
-
+    module _ (p : Pair) (behind : List ℕ) (e : drop at s ≡ recordBytes (pairRecord p) ++ behind) where
       -- where a pair's record stands, that pair is found
       pub pair-there : pairAt s at index ≡ done (pair p (at + 3))
       unfolding pairAt shapeOf
       pair-there =
-          let size : length (drop at s) ≡ suc (suc (suc (length (pairsBytes ps)))) = ap length here in
-          let kind : getD s at 0 ≡ 0x60 = ap (λ (m : ℕ). getD s m 0) (omega arith) ∙ sym (getD-drop at s 0 0) ∙ ap (λ (xs : List ℕ). getD xs 0 0) here in
+          let size : length (drop at s) ≡ suc (suc (suc (length behind))) = ap length e in
+          let kind : getD s at 0 ≡ 0x60 = ap (λ (m : ℕ). getD s m 0) (omega arith) ∙ sym (getD-drop at s 0 0) ∙ ap (λ (xs : List ℕ). getD xs 0 0) e in
           let known : pairKind (getD s at 0) ≡ true = ap pairKind kind in
-          rw (lt-leb (length s) at (omega (arith, length-drop at s)), known) (ap (pairOf index) (reads-back s at (pairRecord p) (pairsBytes ps) here refl))
+          rw (lt-leb (length s) at (omega (arith, length-drop at s)), known) (ap (pairOf index) (reads-back s at (pairRecord p) behind e refl))
 
       -- and the rest of the list stands behind it
-      pub rest-there : drop (at + 3) s ≡ pairsBytes ps
+      pub rest-there : drop (at + 3) s ≡ behind
       rest-there =
-          let back = round-trip s at (reads-back s at (pairRecord p) (pairsBytes ps) here refl) in
-          append-cancel-left (recordBytes (pairRecord p)) (drop (at + 3) s) (pairsBytes ps) (sym (rest-behind s at back) ∙ here)
+          let back = round-trip s at (reads-back s at (pairRecord p) behind e refl) in
+          append-cancel-left (recordBytes (pairRecord p)) (drop (at + 3) s) behind (sym (rest-behind s at back) ∙ e)

@@ -91,6 +91,15 @@ pair-refusal s at index e = go (leb (length s) at) (pairKind (getD s at 0)) e
     go false true e = answer (recordAt s at) e
     go false false e = told (omega arith, omega arith) e
 
+-- and it stands before the end of the list
+pub pair-inside : (s : List ℕ) (at index : ℕ) {n p : ℕ} → pairAt s at index ≡ refused n p → at < length s
+unfolding pairAt
+pair-inside s at index e = go (leb (length s) at) refl e
+  where
+    go : (b : Bool) → leb (length s) at ≡ b → {n p : ℕ} → pick b (done end) (pick (pairKind (getD s at 0)) (pairOf index (recordAt s at)) (refused 24 index)) ≡ refused n p → at < length s
+    go true t e = absurd (not-refused (sym e))
+    go false t e = leb-false (length s) at t
+
 -- the reading with some pairs still to come
 module _ (s : List ℕ) (at index more : ℕ) (g : Growing) (some : 0 < more) where
   one-more : suc (more - 1) ≡ more

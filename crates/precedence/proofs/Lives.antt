@@ -1,17 +1,15 @@
 -- In a circuit that passes the checks every line named is below the width, each line below it lives from its reset to its measurement, and the
 -- bits below it receive one measurement each. By induction over the checks, with the state of one line. Assumes nothing.
-use Prim.Native.Nat.{ℕ, zero, suc, _+_, _≤_, _<_}
+use Prim.Native.Nat.{ℕ, zero, suc, _≤_, _<_}
 use mathlib.Core.Path.{_≡_, refl, sym, ap, subst, _∙_}
 use mathlib.Core.Logic.{_⊎_, inl, inr, _≢_}
-use mathlib.Core.Bool.{Bool, true, false, false≢true}
+use mathlib.Core.Bool.{true, false, false≢true}
 use mathlib.Core.List.{List, [], _∷_}
 use mathlib.Core.Option.{some}
 use native.Mathlib.Omega.{arith}
 use lib.ListN.{length, getD, set, getElem?, length-set, getD-replicate}
 use lib.Seq.{getD-set-same, getD-set-other}
-use lib.Dec.{eqb, leb}
-use borrow.Author.Tests.{eqb-true, eqb-false, eq-eqb, leb-false, not-false}
-use Rattle.basics.specs.Choice.{pick}
+use borrow.Author.Tests.{eqb-true, eq-eqb}
 use Rattle.basics.proofs.Tests.{not-both, true-or-false, refuted, same-or-other}
 use Rattle.orders.specs.Indices.{In, Once, Order, stands}
 use Rattle.orders.proofs.Indices.{stands-in, in-stands, once-full, order-length}
@@ -20,97 +18,37 @@ use Rattle.records.specs.declared.numbers.Bit.{Bit}
 use Rattle.records.specs.declared.instructions.Instruction.{Instruction}
 use Rattle.records.specs.declared.instructions.Instruction.the-variants.{Reset, Measurement, Gate, AngledGate, TwoLineGate, AngledTwoLineGate}
 use Rattle.circuits.specs.Limits.{mostWires}
-use Rattle.circuits.specs.Judging.{fresh, inUse, finished, used, freshStates, lineState, bitState, unfinished, firstUnfinished, advanceOf, Verdict, passed, fault, _then_, faulty, live, judgeReset, judgeGate, judgeMeasurement, judgeTwo, judgeOf}
+use Rattle.circuits.specs.Judging.{fresh, inUse, finished, used, freshStates, lineState, bitState, advanceOf, passed, judgeOf}
 use Rattle.circuits.specs.Reading.{Static}
 use Rattle.circuits.specs.Validity.{Passes, none, also, Valid}
 use Rattle.circuits.specs.declared.states.States.{States}
+use Rattle.circuits.proofs.Passed.{Live, reset-passed, gate-passed, measurement-passed, two-passed}
+use Rattle.circuits.proofs.Unmeasured.{lower-finished}
 use Rattle.precedence.specs.Lives.{linesOf, touches, measures, isGate, Life, over, apart, begins, works, ends, bitsOf}
 
--- ## What a verdict that passed says
-
-both-passed : (u v : Verdict) → u then v ≡ passed → (u ≡ passed) × (v ≡ passed)
-both-passed passed v e = (refl, e)
-both-passed (fault n o) v e = let z : _≡_ {A = ℕ} 0 1 = cc in absurd (omega arith)
-
-not-faulty : (n o : ℕ) (t : Bool) → faulty n o t ≡ passed → t ≡ false
-not-faulty n o true e = let z : _≡_ {A = ℕ} 0 1 = cc in absurd (omega arith)
-not-faulty n o false e = refl
+-- ## The lines of an instruction that passed
 
 module _ (width : ℕ) (c : States) where
-  live-passed : (o : ℕ) (l : Line) → live o c l ≡ passed → (lineState c l ≢ finished) × (lineState c l ≢ fresh)
-  unfolding live
-  live-passed o l e =
-      let p = both-passed (faulty 10 o (eqb (lineState c l) finished)) _ e in
-      (eqb-false _ _ (not-faulty 10 o _ (p .0)), eqb-false _ _ (not-faulty 8 o _ (p .1)))
-
-  reset-passed : (l : Line) → judgeReset width c l ≡ passed → (l .0 < width) × (lineState c l ≢ finished) × (lineState c l ≢ inUse)
-  unfolding judgeReset
-  reset-passed l e =
-      let p = both-passed (faulty 6 1 (leb width (l .0))) _ e in
-      let q = both-passed (faulty 10 1 (eqb (lineState c l) finished)) _ (p .1) in
-      (leb-false _ _ (not-faulty 6 1 _ (p .0)), eqb-false _ _ (not-faulty 10 1 _ (q .0)), eqb-false _ _ (not-faulty 9 1 _ (q .1)))
-
-  -- a line that an instruction other than a reset may be on
-  abbrev Live : Line → Type 0
-  Live l = (l .0 < width) × ((lineState c l ≢ finished) × (lineState c l ≢ fresh))
-
-  gate-passed : (l : Line) → judgeGate width c l ≡ passed → Live l
-  unfolding judgeGate
-  gate-passed l e =
-      let p = both-passed (faulty 6 1 (leb width (l .0))) _ e in
-      (leb-false _ _ (not-faulty 6 1 _ (p .0)), live-passed 1 l (p .1))
-
-  measurement-passed : (l : Line) (b : Bit) → judgeMeasurement width width c l b ≡ passed → Live l × (b .0 < width) × (bitState c b ≢ used)
-  unfolding judgeMeasurement
-  measurement-passed l b e =
-      let p = both-passed (judgeGate width c l) _ e in
-      let q = both-passed (faulty 11 2 (leb width (b .0))) _ (p .1) in
-      (gate-passed l (p .0), leb-false _ _ (not-faulty 11 2 _ (q .0)), eqb-false _ _ (not-faulty 12 2 _ (q .1)))
-
-  two-passed : (l m : Line) → judgeTwo width c l m ≡ passed → Live l × Live m × (l .0 ≢ m .0)
-  unfolding judgeTwo
-  two-passed l m e =
-      let p = both-passed (faulty 6 1 (leb width (l .0))) _ e in
-      let q = both-passed (faulty 6 2 (leb width (m .0))) _ (p .1) in
-      let r = both-passed (faulty 7 2 (eqb (l .0) (m .0))) _ (q .1) in
-      let s = both-passed (live 1 c l) _ (r .1) in (
-        (leb-false _ _ (not-faulty 6 1 _ (p .0)), live-passed 1 l (s .0)),
-        (leb-false _ _ (not-faulty 6 2 _ (q .0)), live-passed 2 m (s .1)),
-        eqb-false _ _ (not-faulty 7 2 _ (r .0)),
-      )
-
   -- every line that an instruction names is below the width, and it names none twice
   named-below : (i : Instruction) → judgeOf width width c i ≡ passed → (x : ℕ) → In x (linesOf i) → x < width
-  named-below (Reset l) e x (inl h) = subst (λ z. z < width) (sym h) (reset-passed l e .0)
-  named-below (Measurement l b) e x (inl h) = subst (λ z. z < width) (sym h) (measurement-passed l b e .0 .0)
-  named-below (Gate k l) e x (inl h) = subst (λ z. z < width) (sym h) (gate-passed l e .0)
-  named-below (AngledGate k l a) e x (inl h) = subst (λ z. z < width) (sym h) (gate-passed l e .0)
-  named-below (TwoLineGate k l m) e x (inl h) = subst (λ z. z < width) (sym h) (two-passed l m e .0 .0)
-  named-below (TwoLineGate k l m) e x (inr (inl h)) = subst (λ z. z < width) (sym h) (two-passed l m e .1 .0)
-  named-below (AngledTwoLineGate k l m a) e x (inl h) = subst (λ z. z < width) (sym h) (two-passed l m e .0 .0)
-  named-below (AngledTwoLineGate k l m a) e x (inr (inl h)) = subst (λ z. z < width) (sym h) (two-passed l m e .1 .0)
+  named-below (Reset l) e x (inl h) = subst (λ z. z < width) (sym h) (reset-passed width c l e .0)
+  named-below (Measurement l b) e x (inl h) = subst (λ z. z < width) (sym h) (measurement-passed width c l b e .0 .0)
+  named-below (Gate k l) e x (inl h) = subst (λ z. z < width) (sym h) (gate-passed width c l e .0)
+  named-below (AngledGate k l a) e x (inl h) = subst (λ z. z < width) (sym h) (gate-passed width c l e .0)
+  named-below (TwoLineGate k l m) e x (inl h) = subst (λ z. z < width) (sym h) (two-passed width c l m e .0 .0)
+  named-below (TwoLineGate k l m) e x (inr (inl h)) = subst (λ z. z < width) (sym h) (two-passed width c l m e .1 .0)
+  named-below (AngledTwoLineGate k l m a) e x (inl h) = subst (λ z. z < width) (sym h) (two-passed width c l m e .0 .0)
+  named-below (AngledTwoLineGate k l m a) e x (inr (inl h)) = subst (λ z. z < width) (sym h) (two-passed width c l m e .1 .0)
 
   named-once : (i : Instruction) → judgeOf width width c i ≡ passed → Once (linesOf i)
   named-once (Reset l) e = (λ h. h, tt)
   named-once (Measurement l b) e = (λ h. h, tt)
   named-once (Gate k l) e = (λ h. h, tt)
   named-once (AngledGate k l a) e = (λ h. h, tt)
-  named-once (TwoLineGate k l m) e = (λ h. elim h [ inl z ↦ two-passed l m e .2 z | inr z ↦ z ], (λ h. h, tt))
-  named-once (AngledTwoLineGate k l m a) e = (λ h. elim h [ inl z ↦ two-passed l m e .2 z | inr z ↦ z ], (λ h. h, tt))
+  named-once (TwoLineGate k l m) e = (λ h. elim h [ inl z ↦ two-passed width c l m e .2 z | inr z ↦ z ], (λ h. h, tt))
+  named-once (AngledTwoLineGate k l m a) e = (λ h. elim h [ inl z ↦ two-passed width c l m e .2 z | inr z ↦ z ], (λ h. h, tt))
 
 -- ## The life of one line
-
--- where no line is found unfinished, each is finished
-none-unfinished : (n : ℕ) (states : List ℕ) (i x : ℕ) → i + n ≤ firstUnfinished n states i → i ≤ x → x < i + n → getD states x fresh ≡ finished
-unfolding firstUnfinished
-none-unfinished zero states i x h a b = absurd (omega arith)
-none-unfinished (suc n) states i x h a b = go (unfinished (getD states i fresh)) refl h (same-or-other i x) (none-unfinished n states (i + 1) x)
-  where
-    go : (t : Bool) → unfinished (getD states i fresh) ≡ t → i + suc n ≤ pick t i (firstUnfinished n states (i + 1)) → (i ≡ x) ⊎ (i ≢ x)
-        → (i + 1 + n ≤ firstUnfinished n states (i + 1) → i + 1 ≤ x → x < i + 1 + n → getD states x fresh ≡ finished) → getD states x fresh ≡ finished
-    go true u h e later = absurd (omega arith)
-    go false u h (inl e) later = subst (λ z. getD states z fresh ≡ finished) e (eqb-true _ _ (not-false _ u))
-    go false u h (inr d) later = later (omega arith) (omega arith) (omega arith)
 
 module _ (width : ℕ) (narrow : width ≤ mostWires) (x : ℕ) (h : x < width) where
   -- the state of line x
@@ -204,7 +142,7 @@ module _ (width : ℕ) (narrow : width ≤ mostWires) (x : ℕ) (h : x < width) 
 
   -- from any states on, line x lives to its end
   lives-from : {c : States} {is : List Instruction} → Passes width c is → Stated c → Life x (stateOf c) is
-  lives-from (none {c} e) s = subst (λ n. Life x n []) (sym (none-unfinished width (c .lines) 0 x (omega arith) (omega arith) (omega arith))) over
+  lives-from (none {c} e) s = subst (λ n. Life x n []) (sym (lower-finished width (c .lines) 0 x (omega arith) (omega arith))) over
   lives-from (also {c} {i} {is} j p) s = life-step c i is j s (lives-from p (stated-after c i s))
 
   fresh-state : stateOf freshStates ≡ fresh

@@ -5,7 +5,6 @@ use mathlib.Core.Path.{_≡_, refl, sym, ap, subst, _∙_}
 use mathlib.Core.Logic.{inl, inr}
 use mathlib.Core.Bool.{Bool, true, false}
 use mathlib.Core.List.{List}
-use native.Mathlib.Omega.{arith}
 use lib.Dec.{ltb}
 use lib.ListN.{length}
 use Rattle.basics.specs.Choice.{pick}
@@ -15,8 +14,9 @@ use Rattle.writing.specs.Writing.{fitted, sized, holding, Settled}
 use Rattle.circuits.specs.Reading.{Static, circuitOf, readCircuit}
 use Rattle.circuits.specs.Rewriting.{againOf, rewritten}
 use Rattle.circuits.specs.Validity.{circuitBytes}
+use Rattle.circuits.specs.Places.{OfCircuit}
 use Rattle.circuits.proofs.Validity.{read-valid}
-use Rattle.circuits.proofs.Refusals.{refused-circuit}
+use Rattle.circuits.proofs.Refusals.{refused-place}
 use Rattle.circuits.proofs.Rewrites.{Accepted}
 use Rattle.table.specs.Marks.{counts, marksOf}
 use Rattle.table.specs.Rule.{accepted}
@@ -35,7 +35,7 @@ use Rattle.writer.specs.Outputs.{outputOf}
 use Rattle.writer.specs.Compiling.{Dynamic, dynamicOf, writtenFor, compiledFrom, compiled, bytesOf, countsOf, Compiled}
 use Rattle.writer.specs.declared.compiling.Counts.{Counts}
 use Rattle.writer.proofs.Compiles.{compiled-length}
-use Rattle.promises.specs.Refusals.{OfCircuit, OfTable, OfRoom, OfRewriting, OfCompiling, OfOffering}
+use Rattle.promises.specs.Refusals.{OfTable, OfRoom, OfRewriting, OfCompiling, OfOffering}
 
 -- equal refusals have equal numbers and places
 same-refusal : {A : Type 0} {m q n p : ℕ} → _≡_ {A = Outcome A} (refused m q) (refused n p) → (m ≡ n) × (q ≡ p)
@@ -53,13 +53,13 @@ room-refused room bytes needed size e = go (ltb room (length bytes)) e
 -- ## Circuits
 
 module _ (s : List ℕ) where
-  pub demand-1-read : {n p : ℕ} → readCircuit s ≡ refused n p → OfCircuit n p
-  demand-1-read e = let r = refused-circuit s e in record { least = r .0 .0; most = r .0 .1; low = r .1 }
+  pub demand-1-read : {n p : ℕ} → readCircuit s ≡ refused n p → OfCircuit s n p
+  demand-1-read e = refused-place s e
 
-  pub demand-1-start : {n p : ℕ} → started s ≡ refused n p → OfCircuit n p
+  pub demand-1-start : {n p : ℕ} → started s ≡ refused n p → OfCircuit s n p
   demand-1-start e = go (readCircuit s) refl e
     where
-      go : (o : Outcome Static) → readCircuit s ≡ o → {n p : ℕ} → tableAtStart o ≡ refused n p → OfCircuit n p
+      go : (o : Outcome Static) → readCircuit s ≡ o → {n p : ℕ} → tableAtStart o ≡ refused n p → OfCircuit s n p
       go (done c) z e = absurd (not-refused (sym e))
       go (refused m q) z {n} {p} e = let r = same-refusal e in demand-1-read (z ∙ rw (r .0, r .1))
 
@@ -71,7 +71,7 @@ module _ (s : List ℕ) where
       go (done c) z e = inr (room-refused room (circuitBytes c) (length s) (ap length (sym (read-valid s z .bytes))) e)
       go (refused m q) z e = let r = same-refusal e in inl (demand-1-read (z ∙ rw (r .0, r .1)))
 
-  pub demand-1-compile : (list : List ℕ) (room : ℕ) {n p : ℕ} → compiled s list room ≡ refused n p → OfCompiling s n p
+  pub demand-1-compile : (list : List ℕ) (room : ℕ) {n p : ℕ} → compiled s list room ≡ refused n p → OfCompiling s list n p
   unfolding compiled
   demand-1-compile list room e = go (readCircuit s) refl e
     where
@@ -84,21 +84,15 @@ module _ (s : List ℕ) where
       written d size (refused m q) f e = let r = same-refusal e in room-refused room (d .bytes) (length s + 1) size (f ∙ rw (r .0, r .1))
 
       listed : (c : Static) → readCircuit s ≡ done c → (o : Outcome Growing) → readPairs (startTable c) list ≡ o → {n p : ℕ} → writtenFor room c o ≡ refused n p
-          → OfCompiling s n p
+          → OfCompiling s list n p
       listed c z (done g) f e =
           let size = subst (λ (o : Outcome Static). length (outputOf (lendersIn (g .pairs)) o) ≡ length s + 1) z (compiled-length s list (told c z) g f) in
           inr (inr (written (dynamicOf c (g .pairs)) size (fitted room (dynamicOf c (g .pairs) .bytes)) refl e))
       listed c z (refused m q) f {n} {p} e =
           let r = same-refusal e in
-          let counted = list-refusal s list c z f in
-          let v = read-valid s z in
-          inr (inl (record {
-            least = omega (arith, counted .0, r .0);
-            most = omega (arith, counted .1, r .0);
-            low = omega (arith, counted .2, r .1, v .narrow, v .wide);
-          }))
+          inr (inl (record { circuit = c; valid = read-valid s z; pair = list-refusal s list c z (f ∙ rw (r .0, r .1)) }))
 
-      go : (o : Outcome Static) → readCircuit s ≡ o → {n p : ℕ} → compiledFrom room list o ≡ refused n p → OfCompiling s n p
+      go : (o : Outcome Static) → readCircuit s ≡ o → {n p : ℕ} → compiledFrom room list o ≡ refused n p → OfCompiling s list n p
       go (done c) z e = listed c z (readPairs (startTable c) list) refl e
       go (refused m q) z e = let r = same-refusal e in inl (demand-1-read (z ∙ rw (r .0, r .1)))
 

@@ -13,7 +13,7 @@ use Rattle.circuits.proofs.Rewrites.{Accepted}
 use Rattle.table.specs.Growing.{Growing}
 use Rattle.table.specs.Starting.{startTable}
 use Rattle.pairs.specs.Listing.{readPairs}
-use Rattle.pairs.proofs.PairLaws.{list-refusal}
+use Rattle.pairs.proofs.PairLaws.{list-refusal, refusal-low}
 use Rattle.writer.specs.Outputs.{output, outputOf}
 use Rattle.writer.specs.Compiling.{Dynamic, dynamicOf, inRoom, writtenFor, compiledFrom, compiled, bytesOf, countsOf, Compiled}
 use Rattle.writer.specs.declared.compiling.Counts.{Counts}
@@ -57,8 +57,7 @@ module _ (s list : List ℕ) (room : ℕ) where
           (let size : length (output (lendersIn (g .pairs)) c) ≡ length s + 1 = subst (λ (o : Outcome Static). length (outputOf (lendersIn (g .pairs)) o) ≡ length s + 1) e (compiled-length s list (accepted c e) g f) in
           omega (arith, size, valid-short s c (read-valid s e)))
       listed c e (refused n p) f =
-          let r = list-refusal s list c e f in
-          (omega (arith, r .0), omega (arith, r .2, read-valid s e .narrow))
+          (omega (arith, list-refusal s list c e f .least), omega (arith, refusal-low s list c e f, read-valid s e .narrow))
 
       go : (o : Outcome Static) → readCircuit s ≡ o → Fits (sized (bytesOf (compiledFrom room list o)))
       go (done c) e = listed c e (readPairs (startTable c) list) refl
