@@ -21,9 +21,8 @@ use Rattle.table.specs.Growing.{Growing}
 use Rattle.table.specs.declared.tables.Table.{Table}
 use Rattle.table.proofs.Offers.{taken-updated}
 use Rattle.pairs.specs.Lending.{nobodyLends, lent, lendersIn}
-use Rattle.pairs.specs.Listing.{Next, pair, end, pairKind, pairRecord, pairOf, pairAt, pairsFrom, readPairs, pairsTold, refusedWith}
+use Rattle.pairs.specs.Listing.{Next, pair, end, pairKind, pairRecord, pairOf, pairAt, pairsFrom, readPairs, PairsSettled}
 use Rattle.pairs.specs.declared.lending.Lenders.{Lenders}
-use Rattle.pairs.specs.declared.listing.Pairs.the-variants as answer
 
 not-end : {p : Pair} {next : ℕ} → _≡_ {A = Outcome Next} (done end) (done (pair p next)) → ⊥
 not-end {p} {next} e = let z : _≡_ {A = ℕ} 0 1 = cc in omega arith
@@ -123,6 +122,11 @@ module _ (s : List ℕ) (at index more : ℕ) (g : Growing) (some : 0 < more) wh
     unfolding pairsFrom
     pairs-on f = ap (λ (n : ℕ). pairsFrom n s at index g) (sym one-more) ∙ rw (e, f)
 
+-- what is settled is settled as what is equal to it
+pub settled-as : {t now : Table} {o q : Outcome Growing} {answered : Outcome ℕ} {lenders : List ℕ} → o ≡ q → PairsSettled t o answered now lenders
+    → PairsSettled t q answered now lenders
+settled-as {t} {now} {o} {q} {answered} {lenders} e h = subst (λ (r : Outcome Growing). PairsSettled t r answered now lenders) e h
+
 -- The loop
 
 -- the pairs taken so far, that after the first the table is clean, and that reading on from here ends where the whole reading does
@@ -156,21 +160,21 @@ module _ (t : Table) (s : List ℕ) where
     some = omega (arith, g .onward, g .inside)
 
     -- at the end of the list
-    pub going-end : pairAt s at index ≡ done end → record { answer = answer.Accepted index; table = now; lenders = lenders } ≡ pairsTold t (readPairs t s)
+    pub going-end : pairAt s at index ≡ done end → PairsSettled t (readPairs t s) (done index) now (lenders .lenders)
     unfolding growing
     going-end e =
-        let z = sym (pairs-end s at index (suc (length s) - index) growing some e) ∙ g .reads in
-        (λ i. record { answer = answer.Accepted (sym (g .counted) i); table = now; lenders = record { lenders = g .lends i } }) ∙ ap (pairsTold t) z
+        settled-as (sym (pairs-end s at index (suc (length s) - index) growing some e) ∙ g .reads)
+        (record { tells = ap done (sym (g .counted)); leaves = refl; lends = g .lends })
 
     -- at a refusal
-    pub going-refused : {n p : ℕ} → pairAt s at index ≡ refused n p → refusedWith n p t ≡ pairsTold t (readPairs t s)
+    pub going-refused : {n p : ℕ} → pairAt s at index ≡ refused n p → refused n p ≡ readPairs t s
     unfolding growing
-    going-refused e = ap (pairsTold t) (sym (pairs-refused s at index (suc (length s) - index) growing some e) ∙ g .reads)
+    going-refused e = sym (pairs-refused s at index (suc (length s) - index) growing some e) ∙ g .reads
 
     module _ {p : Pair} {next : ℕ} (e : pairAt s at index ≡ done (pair p next)) where
-      pub going-untaken : {n q : ℕ} → offered now (p .0) (p .1) ≡ refused n q → refusedWith n index t ≡ pairsTold t (readPairs t s)
+      pub going-untaken : {n q : ℕ} → offered now (p .0) (p .1) ≡ refused n q → refused n index ≡ readPairs t s
       unfolding growing
-      going-untaken f = ap (pairsTold t) (sym (offer-refused s at index (suc (length s) - index) growing some e f) ∙ g .reads)
+      going-untaken f = sym (offer-refused s at index (suc (length s) - index) growing some e f) ∙ g .reads
 
       pub going-on : {after : Table} {more : Lenders} → offered now (p .0) (p .1) ≡ done after → more .lenders ≡ lent (lenders .lenders) (p .0) (p .1)
           → Going t s after more next (index + 1)

@@ -115,20 +115,39 @@ pairsFrom (suc more) s at index g =
 abbrev pub readPairs : Table → List ℕ → Outcome Growing
 readPairs t s = pairsFrom (suc (length s)) s 0 0 (record { table = t; pairs = [] })
 
+-- how many pairs were taken
+abbrev pub pairsCounted : Outcome Growing → Outcome ℕ
+pairsCounted (done g) = done (length (g .pairs))
+pairsCounted (refused number place) = refused number place
+
+-- the table after all pairs; beside a refusal the table given
+abbrev pub tableAfter : Table → Outcome Growing → Table
+tableAfter given (done g) = g .table
+tableAfter given (refused number place) = given
+
+-- each wire's lender; beside a refusal there are none
+abbrev pub lendersAfter : Outcome Growing → List ℕ
+lendersAfter (done g) = lendersIn (g .pairs)
+lendersAfter (refused number place) = nobodyLends
+
 -- What the code answers
-
-abbrev pub told : Growing → Paired
-told g = record { answer = answer.Accepted (length (g .pairs)); table = g .table; lenders = record { lenders = lendersIn (g .pairs) } }
-
-abbrev pub refusedWith : ℕ → ℕ → Table → Paired
-refusedWith number place t = record { answer = answer.Refused (record { number = number; place = place }); table = t; lenders = record { lenders = nobodyLends } }
-
--- how many pairs, the table and each wire's lender; beside a refusal the table given and no lenders
-abbrev pub pairsTold : Table → Outcome Growing → Paired
-pairsTold t (done g) = told g
-pairsTold t (refused number place) = refusedWith number place t
 
 -- the document's number and place, or how many pairs
 abbrev pub pairedOf : Pairs → Outcome ℕ
 pairedOf (answer.Accepted n) = done n
 pairedOf (answer.Refused r) = refused (r .number) (r .place)
+
+-- what is settled of a list: the answer, the table and the lenders
+pub record PairsSettled (given : Table) (o : Outcome Growing) (answered : Outcome ℕ) (table : Table) (lenders : List ℕ) : Type 0 where
+  pub tells : answered ≡ pairsCounted o
+  pub leaves : table ≡ tableAfter given o
+  pub lends : lenders ≡ lendersAfter o
+
+-- the same as a value
+abbrev pub pairsTold : Table → Outcome Growing → Paired
+pairsTold given (done g) = record { answer = answer.Accepted (length (g .pairs)); table = g .table; lenders = record { lenders = lendersIn (g .pairs) } }
+pairsTold given (refused number place) = record {
+  answer = answer.Refused (record { number = number; place = place });
+  table = given;
+  lenders = record { lenders = nobodyLends };
+}

@@ -13,10 +13,11 @@ use table::Reply;
 use table::Table;
 ghost use mathlib.Core.Path.{_≡_};
 ghost use Prim.Native.Nat.{_<_};
+ghost use Rattle.basics.specs.Outcome.{refused};
 ghost use Rattle.records.specs.Records.{answered};
 ghost use Rattle.table.specs.Marks.{Clean};
 ghost use Rattle.table.specs.Calls.{offered, settled};
-ghost use Rattle.pairs.specs.Listing.{foundPair, pairForm, pairKind, pairOf, pairAt, readPairs, pairsTold, refusedWith};
+ghost use Rattle.pairs.specs.Listing.{foundPair, pairForm, pairKind, pairOf, pairAt, readPairs, pairedOf, PairsSettled};
 
 pub enum Pairs {
     // How many pairs were accepted.
@@ -111,7 +112,7 @@ fn pair_at(list: &[u8], at: usize, index: usize) -> Found
 }
 
 fn refuse(number: u8, place: usize, table: Table) -> Paired
-    ensures { λ r. ⌜ r ≡ refusedWith number place table ⌝ }
+    ensures { λ r. ⌜ PairsSettled table (refused number place) (pairedOf (r .answer)) (r .table) (r .lenders .lenders) ⌝ }
 {
     Paired {
         answer: Pairs::Refused(Refusal { number, place }),
@@ -133,7 +134,7 @@ fn take(table: Table, index: usize, lender: Wire, taker: Wire) -> Offered
 
 // Reads a pair list against a table: each pair is offered to the table as those before it leave it.
 pub fn read_pairs(table: Table, list: &[u8]) -> Paired
-    ensures { λ r. ⌜ r ≡ pairsTold table (readPairs table (now (list .entry))) ⌝ }
+    ensures { λ r. ⌜ PairsSettled table (readPairs table (now (list .entry))) (pairedOf (r .answer)) (r .table) (r .lenders .lenders) ⌝ }
 {
     let mut now = table;
     let mut lenders = Lenders::none();

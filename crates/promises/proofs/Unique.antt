@@ -1,6 +1,6 @@
 -- Any two results that a contract allows are equal: an answer is known by its outcome. For the reader's answers crates records and circuits say
--- it, for greedy's crate choosers; here are those of the table and of the compiler. A call whose contract is an equation on its result needs
--- nothing more. Assumes nothing.
+-- it, for a pair list's crate pairs and for greedy's crate choosers; here are those of the table and of the compiler. A call whose contract is
+-- an equation on its result needs nothing more. Assumes nothing.
 use mathlib.Core.Path.{_≡_, refl, sym, ap}
 use Rattle.basics.specs.Outcome.{handing}
 use Rattle.basics.proofs.Outcomes.{not-refused}

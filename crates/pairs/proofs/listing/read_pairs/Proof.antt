@@ -8,7 +8,7 @@ use lib.ListN.{length}
 use Rattle.basics.specs.Outcome.{handing}
 use Rattle.table.specs.Calls.{replied}
 use Rattle.pairs.specs.Listing.{foundPair}
-use Rattle.pairs.proofs.PairTurns.{Going, going-start, going-end, going-refused, going-untaken, going-on, pair-back}
+use Rattle.pairs.proofs.PairTurns.{settled-as, Going, going-start, going-end, going-refused, going-untaken, going-on, pair-back}
 use Rattle.pairs.proofs.listing.read_pairs.Statement.{statement}
 use Rattle.pairs.proofs.listing.read_pairs.Tie as tie
 
@@ -40,7 +40,7 @@ refuse-requires : tie.Need-refuse-requires Inv-loop μ-loop
 refuse-requires c κs = search needs
 
 returns-2 : tie.Need-returns-2 Inv-loop μ-loop
-returns-2 c = c .refuse .ensures ∙ going-refused _ _ _ _ _ _ (c .before .before .before .before .before .loop .inv) (sym (c .before .before .before .before .pair-at .ensures) ∙ ap foundPair (c .before .before .r .given .1))
+returns-2 c = settled-as (going-refused _ _ _ _ _ _ (c .before .before .before .before .before .loop .inv) (sym (c .before .before .before .before .pair-at .ensures) ∙ ap foundPair (c .before .before .r .given .1))) (c .refuse .ensures)
 
 enum-known-lender : tie.Need-enum-known-lender Inv-loop μ-loop
 enum-known-lender c = search needs
@@ -56,9 +56,10 @@ refuse-requires-2 c κs = search needs
 
 returns-3 : tie.Need-returns-3 Inv-loop μ-loop
 returns-3 c =
-    c .refuse2 .ensures
-    ∙ going-untaken _ _ _ _ _ _ (c .before .before .before .before .before .before .before .before .before .loop .inv) (sym (c .before .before .before .before .before .before .before .before .pair-at .ensures) ∙ ap foundPair (c .before .before .before .before .before .before .lender .given .1))
-    (sym (c .before .before .before .before .take .ensures) ∙ ap (λ r. handing (c .before .before .before .before .take .result .table) (replied r)) (c .before .before .reply .given .1))
+    settled-as
+    (going-untaken _ _ _ _ _ _ (c .before .before .before .before .before .before .before .before .before .loop .inv) (sym (c .before .before .before .before .before .before .before .before .pair-at .ensures) ∙ ap foundPair (c .before .before .before .before .before .before .lender .given .1))
+    (sym (c .before .before .before .before .take .ensures) ∙ ap (λ r. handing (c .before .before .before .before .take .result .table) (replied r)) (c .before .before .reply .given .1)))
+    (c .refuse2 .ensures)
 
 enum-told-2 : tie.Need-enum-told-2 Inv-loop μ-loop
 enum-told-2 c = search needs

@@ -6,6 +6,7 @@ use lib.ListN.{length-replicate}
 use Rattle.circuits.specs.Limits.{mostInstructions, headerLength}
 use Rattle.circuits.specs.Reading.{readingOf}
 use Rattle.circuits.proofs.Rewrites.{accepted, turned-away}
+use Rattle.pairs.proofs.Settling.{settled-told}
 use Rattle.writer.proofs.Compiles.{compiled-refused, compiled-to, circuit-refused, table-is, told-refused, told-length, told-accepted}
 use borrow.Author.Needs.{needs}
 use Rattle.writer.proofs.compiling.compile.Statement.{statement}
@@ -39,7 +40,7 @@ write-in-room-requires : tie.Need-write-in-room-requires
 write-in-room-requires c κs = let p = c .before .before .before .before .before .before .before .before .before .before .before .before .before .before .before .before .before .before .before .before .before .before in
     let known = sym (ap readingOf (c .before .before .before .before .before .before .before .before .before .before .before .valid .given .1)) ∙ c .before .before .before .before .before .before .before .before .before .before .before .before .before .note-all .ensures .0 in
     let a = accepted _ known in
-    (known, (c .before .before .before .before .before .before .before .before .before .before .before .before .before .note-all .ensures .1 .0, told-length _ (p .args .list .now) a (table-is _ (p .args .list .now) a (c .before .before .before .before .before .before .before .before .before .before .before .before .before .note-all .ensures .1 .1) (c .before .before .before .before .before .before .before .before .before .table-from .ensures)) (c .before .before .before .before .before .before .before .before .read-pairs .ensures) (c .before .before .before .before .before .before .answer2 .given .1)))
+    (known, (c .before .before .before .before .before .before .before .before .before .before .before .before .before .note-all .ensures .1 .0, told-length _ (p .args .list .now) a (table-is _ (p .args .list .now) a (c .before .before .before .before .before .before .before .before .before .before .before .before .before .note-all .ensures .1 .1) (c .before .before .before .before .before .before .before .before .before .table-from .ensures)) (settled-told _ _ (c .before .before .before .before .before .before .before .before .read-pairs .ensures)) (c .before .before .before .before .before .before .answer2 .given .1)))
 
 returns : tie.Need-returns
 returns c = compiled-refused (circuit-refused _ _ _ (turned-away _ (sym (ap readingOf (c .before .r .given .1)) ∙ c .before .before .before .note-all .ensures .0)))
@@ -47,7 +48,7 @@ returns c = compiled-refused (circuit-refused _ _ _ (turned-away _ (sym (ap read
 returns-2 : tie.Need-returns-2
 returns-2 c = let p = c .before .before .before .before .before .before .before .before .before .before .before .before .before .before .before .before .before in
     let a = accepted _ (sym (ap readingOf (c .before .before .before .before .before .before .valid .given .1)) ∙ c .before .before .before .before .before .before .before .before .note-all .ensures .0) in
-    compiled-refused (told-refused _ _ a (table-is _ (p .args .list .now) a (c .before .before .before .before .before .before .before .before .note-all .ensures .1 .1) (c .before .before .before .before .table-from .ensures)) (c .before .before .before .read-pairs .ensures) (c .before .answer .given .1) _)
+    compiled-refused (told-refused _ _ a (table-is _ (p .args .list .now) a (c .before .before .before .before .before .before .before .before .note-all .ensures .1 .1) (c .before .before .before .before .table-from .ensures)) (settled-told _ _ (c .before .before .before .read-pairs .ensures)) (c .before .answer .given .1) _)
 
 same-length : tie.Need-same-length
 same-length c = search needs
@@ -55,7 +56,7 @@ same-length c = search needs
 returns-3 : tie.Need-returns-3
 returns-3 c = let p = c .before .before .before .before .before .before .before .before .before .before .before .before .before .before .before .before .before .before .before .before .before .before .before .before .before in
     let a = accepted _ (sym (ap readingOf (c .before .before .before .before .before .before .before .before .before .before .before .before .before .before .valid .given .1)) ∙ c .before .before .before .before .before .before .before .before .before .before .before .before .before .before .before .before .note-all .ensures .0) in
-    compiled-to (told-accepted _ _ a (table-is _ (p .args .list .now) a (c .before .before .before .before .before .before .before .before .before .before .before .before .before .before .before .before .note-all .ensures .1 .1) (c .before .before .before .before .before .before .before .before .before .before .before .before .table-from .ensures)) (c .before .before .before .before .before .before .before .before .before .before .before .read-pairs .ensures) (c .before .before .before .before .before .before .before .before .before .answer2 .given .1) _) (c .before .before .write-in-room .ensures)
+    compiled-to (told-accepted _ _ a (table-is _ (p .args .list .now) a (c .before .before .before .before .before .before .before .before .before .before .before .before .before .before .before .before .note-all .ensures .1 .1) (c .before .before .before .before .before .before .before .before .before .before .before .before .table-from .ensures)) (settled-told _ _ (c .before .before .before .before .before .before .before .before .before .before .before .read-pairs .ensures)) (c .before .before .before .before .before .before .before .before .before .answer2 .given .1) _) (c .before .before .write-in-room .ensures)
 
 pub compile-spec : {M : Type 1} → statement M
 compile-spec =
