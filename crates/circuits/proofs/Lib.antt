@@ -10,4 +10,4 @@ pub mod Passed
 pub mod Unmeasured
 pub mod Refusals
 pub mod Unique
-pub mod Worked
+pub mod Readings
