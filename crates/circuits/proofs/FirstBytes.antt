@@ -2,7 +2,7 @@
 -- With `left` instructions still allowed the reading looks at most so many longest records further. Assumes nothing.
 use Prim.Native.Nat.{ℕ, zero, suc, _+_, _*_, _≤_, _<_}
 use mathlib.Core.Bool.{Bool, true, false}
-use mathlib.Core.Path.{_≡_, refl, sym, ap, _∙_}
+use mathlib.Core.Path.{_≡_, refl, ap, _∙_}
 use mathlib.Core.List.{List}
 use native.Mathlib.Omega.{arith}
 use native.Mathlib.Nat.{suc-mul}
@@ -12,7 +12,6 @@ use lib.Dec.{ltb}
 use borrow.Author.Tests.{lt-leb, ltb-true, ltb-false, ne-eqb}
 use Rattle.basics.specs.Outcome.{Outcome, done, refused}
 use Rattle.records.specs.Bytes.{longestRecord}
-use Rattle.records.specs.Records.{recordAt}
 use Rattle.records.specs.declared.instructions.Instruction.{Instruction}
 use Rattle.records.specs.declared.instructions.Record.the-variants.{Step}
 use Rattle.records.proofs.RoundTrip.{round-trip, back-length}

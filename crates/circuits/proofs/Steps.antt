@@ -1,7 +1,7 @@
 -- The step at a place and the record that stands there: one law for each answer. Assumes nothing.
 use Prim.Native.Nat.{ℕ, _+_, _-_, _≤_, _<_}
 use mathlib.Core.Bool.{Bool, true, false}
-use mathlib.Core.Path.{_≡_, refl, sym, ap, subst, _∙_}
+use mathlib.Core.Path.{_≡_, refl, sym}
 use mathlib.Core.List.{List}
 use mathlib.Core.Option.{Option, none, some}
 use native.Mathlib.Omega.{arith}
@@ -13,7 +13,6 @@ use Rattle.basics.specs.Outcome.{Outcome, done, refused}
 use Rattle.records.specs.Kinds.{Shape, shapeOf, instructionForm}
 use Rattle.records.specs.Records.{Standing, stands, over, recordAt, bodied, decodeAt}
 use Rattle.records.specs.declared.instructions.Instruction.{Instruction}
-use Rattle.records.specs.declared.instructions.Record.{Record}
 use Rattle.records.specs.declared.instructions.Record.the-variants.{StaticWidth, DynamicWidth, Step, Reuse}
 use Rattle.records.specs.declared.kinds.Form.{Form}
 use Rattle.records.specs.declared.kinds.Form.the-variants as form

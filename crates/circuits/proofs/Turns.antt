@@ -5,7 +5,7 @@ use mathlib.Core.Path.{_≡_, refl, sym, ap, _∙_}
 use mathlib.Core.List.{List}
 use native.Mathlib.Omega.{arith}
 use lib.ListN.{length, getD}
-use lib.Dec.{leb, eqb}
+use lib.Dec.{leb}
 use borrow.Author.Tests.{eq-eqb, ne-eqb}
 use Rattle.basics.specs.Choice.{pick}
 use Rattle.basics.specs.Outcome.{Outcome, done, refused}
@@ -13,7 +13,7 @@ use Rattle.basics.proofs.Outcomes.{not-refused}
 use Rattle.records.specs.declared.instructions.Instruction.{Instruction}
 use Rattle.circuits.specs.Limits.{mostInstructions, headerLength}
 use Rattle.circuits.specs.Judging.{Verdict, passed, fault, judgeOf, advanceOf, freshStates, finished, fresh, firstUnfinished}
-use Rattle.circuits.specs.Stepping.{Next, step, end, stepAt, instructionAt}
+use Rattle.circuits.specs.Stepping.{Next, step, end, stepAt}
 use Rattle.circuits.specs.Reading.{headerOf, judged, checked, checkedAt, ending, before, readFrom, counted, widthened, summary, circuitOf, readCircuit}
 use Rattle.circuits.specs.declared.states.States.{States}
 

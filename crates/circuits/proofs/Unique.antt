@@ -1,5 +1,4 @@
 -- An answer is known by its outcome: two answers that a contract allows are equal. Assumes nothing.
-use Prim.Native.Nat.{ℕ}
 use mathlib.Core.Path.{_≡_, refl, ap}
 use Rattle.records.specs.declared.answers.Refusal.{Refusal}
 use Rattle.records.proofs.Unique.{refusal-one}

@@ -14,8 +14,8 @@ use Rattle.records.proofs.RoundTrip.{round-trip, rest-behind, reads-back}
 use Rattle.circuits.specs.Stepping.{step, end, stepAt, Steps, ended, more}
 use Rattle.circuits.specs.Validity.{stepsBytes, KindsFit}
 use Rattle.basics.proofs.Outcomes.{not-refused}
-use Rattle.circuits.proofs.Turns.{not-over, some-left}
-use Rattle.circuits.proofs.Steps.{step-record, step-end, end-step, record-step}
+use Rattle.circuits.proofs.Turns.{not-over}
+use Rattle.circuits.proofs.Steps.{step-record, end-step, record-step}
 
 module _ (s : List ℕ) where
   -- A loop that goes by the next step

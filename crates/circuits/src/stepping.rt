@@ -11,7 +11,7 @@ use records::shape;
 ghost use mathlib.Core.Path.{_≡_};
 ghost use Rattle.basics.specs.Outcome.{refused};
 ghost use Rattle.records.specs.Records.{answered};
-ghost use Rattle.circuits.specs.Stepping.{foundOf, kindAllowed, stepOf, instructionAt, stepAt};
+ghost use Rattle.circuits.specs.Stepping.{foundOf, kindAllowed, stepOf, stepAt};
 
 pub enum Found {
     // The instruction that stands there, and the place after it.

@@ -21,7 +21,6 @@ use Rattle.table.specs.Calls.{offered}
 use Rattle.table.specs.Growing.{Growing}
 use Rattle.table.specs.declared.tables.Table.{Table}
 use Rattle.pairs.specs.Lending.{nobodyLends, lendersIn}
-use Rattle.pairs.specs.declared.lending.Lenders.{Lenders}
 use Rattle.pairs.specs.declared.listing.Found.{Found}
 use Rattle.pairs.specs.declared.listing.Found.the-variants as found
 use Rattle.pairs.specs.declared.listing.Pairs.{Pairs}

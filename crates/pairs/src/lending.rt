@@ -2,7 +2,7 @@
 use circuits::Circuit;
 use records::Wire;
 ghost use mathlib.Core.Path.{_≡_};
-ghost use Rattle.pairs.specs.Lending.{nobody, nobodyLends, lenderOf, takes, lent};
+ghost use Rattle.pairs.specs.Lending.{nobodyLends, lenderOf, takes, lent};
 
 pub struct Lenders {
     // For each taker its lender; a number that is no wire's stands for nobody.

@@ -1,5 +1,4 @@
 -- An answer is known by its outcome: two answers that a contract allows are equal. Assumes nothing.
-use Prim.Native.Nat.{ℕ}
 use mathlib.Core.Path.{_≡_, refl, ap}
 use Rattle.basics.specs.Outcome.{Outcome, refused}
 use Rattle.records.specs.Kinds.{Shape, outlined}
@@ -7,7 +6,6 @@ use Rattle.records.specs.Records.{answered}
 use Rattle.records.specs.declared.answers.Refusal.{Refusal}
 use Rattle.records.specs.declared.answers.Answer.{Answer}
 use Rattle.records.specs.declared.answers.Answer.the-variants as answer
-use Rattle.records.specs.declared.kinds.Form.{Form}
 use Rattle.records.specs.declared.kinds.Outline.{Outline}
 use Rattle.records.specs.declared.kinds.Outline.the-variants as outline
 

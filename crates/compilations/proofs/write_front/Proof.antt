@@ -1,6 +1,5 @@
 -- `compilations::write_front` takes no more than the buffer has. Assumes nothing.
 use mathlib.Core.Path.{sym}
-use native.Mathlib.Omega.{arith}
 use lib.Seq.{length-take-le}
 use borrow.Author.Needs.{needs}
 use Rattle.compilations.proofs.write_front.Statement.{statement}

@@ -1,6 +1,5 @@
 -- `records::reading::record_at` meets its contract: each way out is one of the answers. Assumes nothing.
 use mathlib.Core.Path.{sym, ap, _∙_}
-use native.Mathlib.Omega.{arith}
 use Rattle.records.specs.Kinds.{outlined}
 use Rattle.records.proofs.Standings.{at-end, at-unknown, at-cut, at-record}
 use borrow.Author.Needs.{needs}
