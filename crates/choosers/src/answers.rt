@@ -5,14 +5,14 @@ ghost use Rattle.choosers.specs.Results.{list_of};
 use records::{Refusal, Wire};
 use table::Table;
 
-#[derive(Drop)]
+#[derive(Clone, Copy)]
 pub struct Pair {
     pub lender: Wire,
     pub taker: Wire,
 }
 
 // The pairs in the order chosen; the entries past the length are 0 to 0.
-#[derive(Drop)]
+#[derive(Clone, Copy)]
 pub struct PairList {
     pub pairs: [Pair; PairList::MOST],
     pub length: usize,
@@ -36,21 +36,21 @@ impl PairList {
 }
 
 // What the rounds leave: the list, the table as the accepted offers leave it, and the number of trials.
-#[derive(Drop)]
+#[derive(Clone, Copy)]
 pub struct Rounds {
     pub list: PairList,
     pub table: Table,
     pub trials: u32,
 }
 
-#[derive(Drop)]
+#[derive(Clone, Copy)]
 pub enum Choice {
     Made,
     Refused(Refusal),
 }
 
 // The choice, and what the rounds left; beside a refusal the table given, with no pair and no trial.
-#[derive(Drop)]
+#[derive(Clone, Copy)]
 pub struct Chosen {
     pub choice: Choice,
     pub rounds: Rounds,

@@ -14,14 +14,14 @@ use records::Wire;
 use table::{Counted, Row, Table, all_marks, count, offer, row_left};
 
 // A pair that was tried, and its score.
-#[derive(Drop)]
+#[derive(Clone, Copy)]
 struct Tried {
     pair: Pair,
     score: u32,
 }
 
 // The best pair tried so far.
-#[derive(Drop)]
+#[derive(Clone, Copy)]
 enum Best {
     Nothing,
     Found(Tried),

@@ -2,7 +2,7 @@
 use records::Encoded;
 
 // How many wires, and how many instructions.
-#[derive(Drop)]
+#[derive(Clone, Copy)]
 pub struct Circuit {
     pub width: u8,
     pub instructions: usize,

@@ -9,13 +9,13 @@ use crate::states::{States, set_state, state_at};
 use records::{Bit, Line};
 
 // A number of document 01's table, and which operand it speaks of: 1 the first, 2 the second.
-#[derive(Drop)]
+#[derive(Clone, Copy)]
 pub struct Fault {
     pub number: u8,
     pub operand: u8,
 }
 
-#[derive(Drop)]
+#[derive(Clone, Copy)]
 pub enum Verdict {
     Passed,
     Fault(Fault),

@@ -12,13 +12,13 @@ use crate::states::{States, state_at};
 use crate::taking::take_step;
 use records::{Answer, Form, Outline, Record, Refusal, record_at, shape};
 
-#[derive(Drop)]
+#[derive(Clone, Copy)]
 pub enum Reading {
     Valid(Circuit),
     Refused(Refusal),
 }
 
-#[derive(Drop)]
+#[derive(Clone, Copy)]
 pub enum Header {
     Width(u8),
     Refused(Refusal),

@@ -12,7 +12,7 @@ use crate::reading::{Reading, read};
 use crate::stepping::{Found, step_at};
 use records::{Record, Refusal, write_record};
 
-#[derive(Drop)]
+#[derive(Clone, Copy)]
 pub enum Rewriting {
     // How many bytes were written.
     Done(usize),

@@ -8,7 +8,7 @@ ghost use Rattle.circuits.specs.Sketching.{glimpsed, in_sketch, operands_of};
 
 use records::{Bit, Form, Line, Outline, Refusal, is_instruction, shape};
 
-#[derive(Drop)]
+#[derive(Clone, Copy)]
 pub enum Sketch {
     Reset(Line),
     Measurement(Line, Bit),
@@ -18,7 +18,7 @@ pub enum Sketch {
     Two(Line, Line),
 }
 
-#[derive(Drop)]
+#[derive(Clone, Copy)]
 pub enum Glimpse {
     // The sketch of the instruction that stands there, and the place after it.
     Step { sketch: Sketch, next: usize },

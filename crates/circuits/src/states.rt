@@ -5,7 +5,7 @@ ghost use Rattle.circuits.specs.Judging.{fresh, fresh_states};
 
 use crate::circuit::Circuit;
 
-#[derive(Drop)]
+#[derive(Clone, Copy)]
 pub struct States {
     // For each line: fresh, in use (reset and not measured), or done (measured).
     pub lines: [u8; Circuit::MOST_WIRES],

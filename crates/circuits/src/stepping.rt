@@ -7,7 +7,7 @@ ghost use Rattle.circuits.specs.Stepping.{found_of, kind_allowed, step_of, step_
 
 use records::{Answer, Instruction, Outline, Record, Refusal, is_instruction, record_at, shape};
 
-#[derive(Drop)]
+#[derive(Clone, Copy)]
 pub enum Found {
     // The instruction that stands there, and the place after it.
     Step {

@@ -2,7 +2,7 @@
 ghost use Rattle.std.specs.Prelude.{◌≤◌, length};
 
 // How many bytes were read, and whether all could be.
-#[derive(Drop)]
+#[derive(Clone, Copy)]
 pub struct Input {
     pub count: usize,
     pub whole: bool,

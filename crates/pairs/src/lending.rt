@@ -5,7 +5,7 @@ ghost use Rattle.pairs.specs.Lending.{nobody_lends, lender_of, takes, lent};
 use circuits::Circuit;
 use records::Wire;
 
-#[derive(Drop)]
+#[derive(Clone, Copy)]
 pub struct Lenders {
     // For each taker its lender; a number that is no wire's stands for nobody.
     pub lenders: [u8; Circuit::MOST_WIRES],

@@ -10,7 +10,7 @@ use crate::lending::Lenders;
 use records::{Answer, Form, Outline, Record, Refusal, Wire, record_at, shape};
 use table::{Offered, Reply, Table};
 
-#[derive(Drop)]
+#[derive(Clone, Copy)]
 pub enum Pairs {
     // How many pairs were accepted.
     Accepted(usize),
@@ -18,7 +18,7 @@ pub enum Pairs {
 }
 
 // The answer, the table after the pairs and each wire's lender; beside a refusal the table given and no lenders.
-#[derive(Drop)]
+#[derive(Clone, Copy)]
 pub struct Paired {
     pub answer: Pairs,
     pub table: Table,
@@ -26,7 +26,7 @@ pub struct Paired {
 }
 
 // What stands at a place of a pair list.
-#[derive(Drop)]
+#[derive(Clone, Copy)]
 enum Found {
     // The lender, the taker, and the place after the record.
     Pair(Wire, Wire, usize),

@@ -6,7 +6,7 @@ ghost use Rattle.records.specs.Bytes.{instruction_bytes, record_bytes, encoded};
 use crate::instructions::{Instruction, Record};
 
 // A record's bytes at the front, 0 behind them, and how many they are.
-#[derive(Drop)]
+#[derive(Clone, Copy)]
 pub struct Encoded {
     pub bytes: [u8; Encoded::MOST],
     pub length: usize,

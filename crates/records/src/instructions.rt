@@ -1,7 +1,7 @@
 // Instructions and the other records, with their operands. A gate carries its kind byte: its form has sixteen.
 use crate::numbers::{Angle, Bit, Line, Wire};
 
-#[derive(Drop)]
+#[derive(Clone, Copy)]
 pub enum Instruction {
     Reset(Line),
     Measurement(Line, Bit),
@@ -11,7 +11,7 @@ pub enum Instruction {
     AngledTwoLineGate(u8, Line, Line, Angle),
 }
 
-#[derive(Drop)]
+#[derive(Clone, Copy)]
 pub enum Record {
     // How many wires.
     StaticWidth(u8),

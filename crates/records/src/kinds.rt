@@ -2,7 +2,7 @@
 ghost use Rattle.std.specs.Prelude.{◌≡◌};
 ghost use Rattle.records.specs.Kinds.{shape_of, outlined, instruction_form};
 
-#[derive(Drop)]
+#[derive(Clone, Copy)]
 pub enum Form {
     StaticWidth,
     DynamicWidth,
@@ -15,7 +15,7 @@ pub enum Form {
     Reuse,
 }
 
-#[derive(Drop)]
+#[derive(Clone, Copy)]
 pub enum Outline {
     // The form of the record, the length of its body and the count of its operands.
     Body(Form, usize, usize),

@@ -9,7 +9,7 @@ const BUFFER: usize = 4096;
 const LINE: usize = 96;
 
 // What came of printing what stands at a place.
-#[derive(Drop)]
+#[derive(Clone, Copy)]
 enum Printed {
     // The line of a record or of a refusal.
     Line,
@@ -19,14 +19,14 @@ enum Printed {
 }
 
 // How far a piece is printed, and whether to read on.
-#[derive(Drop)]
+#[derive(Clone, Copy)]
 struct Shown {
     at: usize,
     on: bool,
 }
 
 // The bytes that are kept at the buffer's front, their place in the input, and whether to read on.
-#[derive(Drop)]
+#[derive(Clone, Copy)]
 struct Kept {
     count: usize,
     place: usize,

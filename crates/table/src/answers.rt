@@ -7,7 +7,7 @@ use crate::tables::Table;
 use records::Refusal;
 
 // Whether a lender may lend to a taker.
-#[derive(Drop)]
+#[derive(Clone, Copy)]
 pub enum Permission {
     Yes,
     No,
@@ -28,21 +28,21 @@ impl Permission {
 }
 
 // What becomes of an offer.
-#[derive(Drop)]
+#[derive(Clone, Copy)]
 pub enum Reply {
     Taken,
     Refused(Refusal),
 }
 
 // The reply, and the table after the offer.
-#[derive(Drop)]
+#[derive(Clone, Copy)]
 pub struct Offered {
     pub reply: Reply,
     pub table: Table,
 }
 
 // How many marks count.
-#[derive(Drop)]
+#[derive(Clone, Copy)]
 pub enum Counted {
     Marks(u32),
     Refused(Refusal),
@@ -61,14 +61,14 @@ impl Counted {
 }
 
 // Whether a circuit was read.
-#[derive(Drop)]
+#[derive(Clone, Copy)]
 pub enum Start {
     Done,
     Refused(Refusal),
 }
 
 // The answer and the circuit's table, beside a refusal the table of no wires.
-#[derive(Drop)]
+#[derive(Clone, Copy)]
 pub struct Started {
     pub answer: Start,
     pub table: Table,

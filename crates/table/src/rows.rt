@@ -11,7 +11,7 @@ use records::Wire;
 
 // What an accepted offer is for every row: the other free lenders, the free takers, the marks of the lender's own row
 // that count, and the taker.
-#[derive(Drop)]
+#[derive(Clone, Copy)]
 pub struct Change {
     pub lenders: Row,
     pub takers: Row,

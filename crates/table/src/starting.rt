@@ -19,7 +19,7 @@ use circuits::{Circuit, Glimpse, Reading, Sketch, read, sketch_at, wire_of};
 use records::Wire;
 
 // For each wire the wires whose resets lead to what the pass has come by on it.
-#[derive(Drop)]
+#[derive(Clone, Copy)]
 pub struct Sets {
     pub rows: [Row; Table::ROWS],
 }

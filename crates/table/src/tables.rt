@@ -7,7 +7,7 @@ use circuits::Circuit;
 // One lender's yes marks, or a set of wires: bit v is wire v's.
 pub type Row = u32;
 
-#[derive(Drop)]
+#[derive(Clone, Copy)]
 pub struct Table {
     pub width: u8,
     // A row for each lender.

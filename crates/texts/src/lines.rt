@@ -14,7 +14,7 @@ const LONGEST_LINE: usize = 85;
 
 // Where the numbers behind the name begin and end among a record's bytes: a gate's kind is one of them, and what is
 // behind them is the angle.
-#[derive(Drop)]
+#[derive(Clone, Copy)]
 struct Parts {
     from: usize,
     stop: usize,

@@ -8,7 +8,7 @@ ghost use Rattle.walk.specs.Walks.{place_after};
 use records::{Answer, record_at};
 
 // The circuit and a place in it.
-#[derive(Drop)]
+#[derive(Clone, Copy)]
 pub struct Walk<'a> {
     pub circuit: &'a [u8],
     pub at: usize,

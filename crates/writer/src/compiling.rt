@@ -18,14 +18,14 @@ use records::Refusal;
 use table::{Sets, Table, table_from};
 
 // How many bytes were written, and how many qubits and pairs the dynamic circuit has.
-#[derive(Drop)]
+#[derive(Clone, Copy)]
 pub struct Counts {
     pub bytes: usize,
     pub qubits: u8,
     pub pairs: usize,
 }
 
-#[derive(Drop)]
+#[derive(Clone, Copy)]
 pub enum Compiling {
     Done(Counts),
     Refused(Refusal),

@@ -81,7 +81,7 @@ fn qubit_of(
     Qubit(firsts_below(lenders, width, first))
 }
 
-#[derive(Drop)]
+#[derive(Clone, Copy)]
 pub struct Renaming {
     // For each wire its qubit.
     pub qubits: [u8; Circuit::MOST_WIRES],

@@ -1,0 +1,13 @@
+-- `choosers::choosing::better_of` meets its contract: its test is the definition's. Assumes nothing.
+use borrow.Author.Tests.{lt-ltb, le-ltb}
+use borrow.Author.Rules.{rules}
+use Rattle.choosers.proofs.choosing.better_of.Goals as goal
+
+pub returns-in-Nothing : goal.returns-in-Nothing
+returns-in-Nothing c = rw c.enum_told-1.given.1
+
+pub returns-then-old-new : goal.returns-then-old-new
+returns-then-old-new c = rw (c.best-1.given.1, lt-ltb _ _ c.if-old-new.true)
+
+pub returns-else-old-new : goal.returns-else-old-new
+returns-else-old-new c = rw (c.best-1.given.1, le-ltb _ _ c.if-old-new.false)

@@ -1,0 +1,22 @@
+-- `choosers::choosing::try_takers` meets its contract: before each turn the takers below have been tried. Assumes nothing.
+use Prim.Native.Nat.{◌≤◌, ◌-◌}
+use mathlib.Core.Path.{◌≡◌, refl, ap, ◌∙◌}
+use mathlib.Core.Logic.{⊎_elim}
+use native.Mathlib.Nat.{le_refl}
+use native.Mathlib.Numerals.{add-one}
+use native.Mathlib.Omega.{arith}
+use borrow.Author.Rules.{rules}
+use lib.ListN.{length}
+use Rattle.bits.proofs.Lists.{length-each}
+use Rattle.table.specs.Marks.{counts}
+use Rattle.choosers.specs.Trying.{try_pair, try_takers, score_in}
+use Rattle.choosers.specs.Results.{best_said}
+use Rattle.choosers.proofs.YesPairs.{fits}
+use Rattle.choosers.proofs.Scores.{tries_yes, tries_not, tries_none}
+use Rattle.choosers.proofs.choosing.try_takers.Given as goal
+
+abbrev pub invariant-loop-taker : goal.invariant-loop-taker
+invariant-loop-taker l = (l.taker ≤ l.table.width) × (best_said l.now ≡ try_takers (counts l.table) (score_in l.table) l.lender.0 l.taker (best_said l.initial.now))
+
+abbrev pub decreases-loop-taker : goal.decreases-loop-taker
+decreases-loop-taker l = l.table.width - l.taker

@@ -1,0 +1,15 @@
+-- `circuits::judging::judge` meets its contract: each kind of sketch has its own judge. Assumes nothing.
+use borrow.Author.Rules.{rules}
+use Rattle.circuits.proofs.judging.judge.Goals as goal
+
+pub returns-in-Reset : goal.returns-in-Reset
+returns-in-Reset c = rw c.sketch-1.given.1 (c.judge_reset.ensures _)
+
+pub returns-in-Measurement : goal.returns-in-Measurement
+returns-in-Measurement c = rw c.sketch-in-Measurement-1.given.1 c.judge_measurement.ensures
+
+pub returns-in-One : goal.returns-in-One
+returns-in-One c = rw c.sketch-in-One-1.given.1 (c.judge_gate.ensures _)
+
+pub returns-in-Two : goal.returns-in-Two
+returns-in-Two c = rw c.sketch-in-Two-1.given.1 (c.judge_two.ensures _)

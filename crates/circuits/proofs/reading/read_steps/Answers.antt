@@ -1,0 +1,40 @@
+-- `circuits::reading::read_steps` meets its contract. The loop's invariant: what is read from here on, with the instructions
+-- counted so far, is what is read from the start. Assumes nothing.
+use Prim.Native.Nat.{◌-◌, ◌≤◌}
+use mathlib.Core.Path.{◌≡◌, sym, ap, ◌∙◌}
+use native.Mathlib.Omega.{arith}
+use lib.ListN.{length}
+use borrow.Author.Rules.{rules}
+use Rattle.circuits.specs.Limits.{most_wires, most_instructions, header_length}
+use Rattle.circuits.specs.Judging.{states_of, fresh_states}
+use Rattle.circuits.specs.Reading.{read_from, counted}
+use Rattle.circuits.proofs.Takes.{turn, counts_on}
+use Rattle.circuits.proofs.reading.read_steps.Goals as goal
+
+pub loop-progress-init : goal.loop-progress-init
+loop-progress-init c = let start = c.fresh-fresh.ensures in
+    (omega arith, rw start, rw start, rw start)
+
+pub returns-in-End : goal.returns-in-End
+returns-in-End c = c.close.ensures
+    ∙ ap (counted _ _) (sym (turn _ _ _ _ _ _ _ c.enum_told-1.given.1 c.take_step.ensures))
+    ∙ c.loop-progress.invariant.3
+
+pub returns-in-Refused : goal.returns-in-Refused
+returns-in-Refused c = ap (counted _ _) (sym (turn _ _ _ _ _ _ _ c.r-1.given.1 c.take_step.ensures))
+    ∙ c.loop-progress.invariant.3
+
+pub overflow_sub-left-in-Step : goal.overflow_sub-left-in-Step
+overflow_sub-left-in-Step c = (turn _ _ _ _ _ _ _ c.next-1.given.1 c.take_step.ensures).allowed
+
+pub loop-progress-smaller : goal.loop-progress-smaller
+loop-progress-smaller c = omega (arith, (turn _ _ _ _ _ _ _ c.next-1.given.1 c.take_step.ensures).allowed)
+
+pub loop-progress-preserved : goal.loop-progress-preserved
+loop-progress-preserved c = let inv = c.loop-progress.invariant in
+    let taken = turn _ _ _ _ _ _ _ c.next-1.given.1 c.take_step.ensures in (
+      omega (arith, inv.0),
+      c.take_step.auto.1.1.1.1.0 ∙ inv.1,
+      c.take_step.auto.1.1.1.1.1.0 ∙ inv.2,
+      sym (counts_on _ _ _ _ _ _ most_instructions inv.0 taken) ∙ inv.3,
+    )

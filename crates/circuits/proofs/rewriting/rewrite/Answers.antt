@@ -1,0 +1,21 @@
+-- `circuits::rewriting::rewrite` meets its contract: the reader's refusal, 31, or the header and then the steps. Assumes nothing.
+use mathlib.Core.Path.{sym, ap, ◌∙◌}
+use Rattle.writing.proofs.Puts.{settled_refused, settled_done}
+use Rattle.circuits.specs.Reading.{reading_of}
+use Rattle.circuits.proofs.Rewrites.{accepted, turned_away, not_read, steps_stand, no_room, has_room, steps_fit, wrote_circuit}
+use borrow.Author.Rules.{rules}
+use Rattle.circuits.proofs.rewriting.rewrite.Goals as goal
+
+pub returns-then-out-circuit : goal.returns-then-out-circuit
+returns-then-out-circuit c = settled_refused (no_room _ (accepted _ (sym (ap reading_of c.valid-1.given.1) ∙ c.read.ensures)) _ c.if-out-circuit.true)
+
+pub write_steps-requires : goal.write_steps-requires
+write_steps-requires c = let a = accepted _ (sym (ap reading_of c.valid-1.given.1) ∙ c.read.ensures) in
+    (steps_stand _ a, steps_fit _ a c.if-out-circuit.false c.write_record-from.ensures)
+
+pub returns-in-Refused : goal.returns-in-Refused
+returns-in-Refused c = settled_refused (not_read _ _ (turned_away _ (sym (ap reading_of c.r-1.given.1) ∙ c.read.ensures)))
+
+pub returns-else-out-circuit : goal.returns-else-out-circuit
+returns-else-out-circuit c = let a = accepted _ (sym (ap reading_of c.valid-1.given.1) ∙ c.read.ensures) in
+    settled_done (has_room _ a _ c.if-out-circuit.false) (wrote_circuit _ a c.if-out-circuit.false c.write_record-from.ensures c.write_steps.ensures)

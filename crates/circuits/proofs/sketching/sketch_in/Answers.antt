@@ -1,0 +1,46 @@
+-- `circuits::sketching::sketch_in` meets its contract: each form in turn. Assumes nothing.
+use mathlib.Core.Path.{ap, ◌∙◌}
+use native.Mathlib.Omega.{arith}
+use Rattle.circuits.specs.Sketching.{operands_of}
+use Rattle.circuits.proofs.Sketches.{some_operand}
+use borrow.Author.Rules.{rules}
+use Rattle.circuits.proofs.sketching.sketch_in.Goals as goal
+
+pub bounds-s-at : goal.bounds-s-at
+bounds-s-at c = omega (arith, some_operand c.args.form)
+
+pub bounds-s-at-in-Measurement : goal.bounds-s-at-in-Measurement
+bounds-s-at-in-Measurement c = omega (arith, ap operands_of c.enum_told-in-Measurement-1.given.1)
+
+pub bounds-s-at-in-TwoLineGate : goal.bounds-s-at-in-TwoLineGate
+bounds-s-at-in-TwoLineGate c = omega (arith, ap operands_of c.enum_told-in-TwoLineGate-1.given.1)
+
+pub bounds-s-at-in-AngledTwoLineGate : goal.bounds-s-at-in-AngledTwoLineGate
+bounds-s-at-in-AngledTwoLineGate c = omega (arith, ap operands_of c.enum_told-in-AngledTwoLineGate-1.given.1)
+
+pub returns-in-StaticWidth : goal.returns-in-StaticWidth
+returns-in-StaticWidth c = c.refuse.ensures ∙ rw c.enum_told-in-StaticWidth-1.given.1
+
+pub returns-in-DynamicWidth : goal.returns-in-DynamicWidth
+returns-in-DynamicWidth c = c.refuse-in-DynamicWidth.ensures ∙ rw c.enum_told-in-DynamicWidth-1.given.1
+
+pub returns-in-Reuse : goal.returns-in-Reuse
+returns-in-Reuse c = c.refuse-in-Reuse.ensures ∙ rw c.enum_told-in-Reuse-1.given.1
+
+pub returns-in-Reset : goal.returns-in-Reset
+returns-in-Reset c = rw c.enum_told-1.given.1
+
+pub returns-in-Measurement : goal.returns-in-Measurement
+returns-in-Measurement c = rw c.enum_told-in-Measurement-1.given.1
+
+pub returns-in-Gate : goal.returns-in-Gate
+returns-in-Gate c = rw c.enum_told-in-Gate-1.given.1
+
+pub returns-in-AngledGate : goal.returns-in-AngledGate
+returns-in-AngledGate c = rw c.enum_told-in-AngledGate-1.given.1
+
+pub returns-in-TwoLineGate : goal.returns-in-TwoLineGate
+returns-in-TwoLineGate c = rw c.enum_told-in-TwoLineGate-1.given.1
+
+pub returns-in-AngledTwoLineGate : goal.returns-in-AngledTwoLineGate
+returns-in-AngledTwoLineGate c = rw c.enum_told-in-AngledTwoLineGate-1.given.1

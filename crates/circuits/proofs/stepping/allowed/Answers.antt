@@ -1,0 +1,11 @@
+-- `circuits::stepping::allowed` meets its contract: the table of kinds gives the form. Assumes nothing.
+use mathlib.Core.Path.{sym, ap, ◌∙◌}
+use Rattle.records.specs.Kinds.{outlined}
+use borrow.Author.Rules.{rules}
+use Rattle.circuits.proofs.stepping.allowed.Goals as goal
+
+pub returns-in-Body : goal.returns-in-Body
+returns-in-Body c = c.is_instruction.ensures ∙ rw (sym c.shape.ensures ∙ ap outlined c.form-1.given.1)
+
+pub returns-in-Unknown : goal.returns-in-Unknown
+returns-in-Unknown c = rw (sym c.shape.ensures ∙ ap outlined c.enum_told-1.given.1)

@@ -1,0 +1,27 @@
+-- `records::reading::record_at` meets its contract: each way out is one of the answers. Assumes nothing.
+use mathlib.Core.Path.{sym, ap, ◌∙◌}
+use Rattle.records.specs.Kinds.{outlined}
+use Rattle.records.proofs.Standings.{at_end, at_unknown, at_cut, at_record}
+use borrow.Author.Rules.{rules}
+use Rattle.records.proofs.reading.record_at.Goals as goal
+
+pub returns-then-s-at : goal.returns-then-s-at
+returns-then-s-at c = sym (at_end _ _ c.if-s-at.true)
+
+pub returns-then-s-at-2 : goal.returns-then-s-at-2
+returns-then-s-at-2 c = sym
+    (at_cut _ _ c.if-s-at.false
+    (sym c.shape.ensures ∙ ap outlined c.form-1.given.1)
+    c.if-s-at-2.true)
+
+pub returns-in-Unknown : goal.returns-in-Unknown
+returns-in-Unknown c = sym
+    (at_unknown _ _ c.if-s-at.false
+    (sym c.shape.ensures ∙ ap outlined c.enum_told-1.given.1))
+
+pub returns-else-s-at-2 : goal.returns-else-s-at-2
+returns-else-s-at-2 c = rw c.decode-item.ensures
+    (sym
+    (at_record _ _ c.if-s-at.false
+    (sym c.shape.ensures ∙ ap outlined c.form-1.given.1)
+    c.if-s-at-2.false))

@@ -1,0 +1,34 @@
+-- `table::counting::marks_of` meets its contract: before turn u, n is the count of the rows below u. Assumes nothing.
+use Prim.Native.Nat.{◌≤◌, ◌<◌, ◌-◌, ◌^◌}
+use mathlib.Core.Path.{◌≡◌, refl, ◌∙◌}
+use native.Mathlib.Omega.{arith}
+use borrow.Author.Rules.{rules}
+use lib.Count.{ones-le}
+use lib.ListN.{get_or}
+use Rattle.bits.specs.Bits.{total, tally}
+use Rattle.bits.proofs.Sums.{tallies_more, tallies_le}
+use Rattle.table.specs.Limits.{most_wires}
+use Rattle.table.specs.Marks.{counts, rows_below}
+use Rattle.table.proofs.Held.{row_held}
+use Rattle.table.proofs.TableMarks.{row_counts}
+use Rattle.table.proofs.RowsBelow.{below_most, marks_below}
+use Rattle.table.proofs.counting.marks_of.Goals as goal
+
+pub loop-u-init : goal.loop-u-init
+unfolding total
+loop-u-init c = (search rules, rw c.rows_below-end.ensures (below_most c.args.table.width), refl)
+
+pub overflow_add-n : goal.overflow_add-n
+overflow_add-n c = let h = c.loop-u in
+    omega (arith, tallies_le most_wires (counts c.args.table) _ _ h.invariant.2, ones-le most_wires c.counting.result (search rules))
+
+pub loop-u-preserved : goal.loop-u-preserved
+loop-u-preserved c = let h = c.loop-u in
+    let fits : get_or c.args.table.rows h.u 0 < 2 ^ most_wires = row_held c.args.table.rows c.well_formed.0.1.1.1.0 h.u in
+    let row = c.counting.ensures ∙ row_counts c.args.table h.u fits (record { is = c.unused-lenders.ensures }) (record { is = c.unused-takers.ensures }) (omega arith) in
+    (search rules, h.invariant.1, tallies_more most_wires (counts c.args.table) _ _ _ h.invariant.2 (record { is = row }))
+
+pub returns : goal.returns
+returns c = let t = c.args.table in
+    let e : c.loop-u.u ≡ rows_below t.width = omega (arith, c.rows_below-end.ensures) in
+    rw e at c.loop-u.invariant.2 ∙ marks_below t

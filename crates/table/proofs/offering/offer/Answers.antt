@@ -1,0 +1,23 @@
+-- `table::offering::offer` meets its contract: the reply is what becomes of the offer. Assumes nothing.
+use mathlib.Core.Path.{sym, ap, ◌∙◌}
+use Rattle.basics.specs.Outcome.{Outcome, done, handing, beside}
+use Rattle.table.specs.Rule.{accepted}
+use Rattle.table.specs.Calls.{replied}
+use borrow.Author.Rules.{rules}
+use Rattle.table.proofs.offering.offer.Goals as goal
+
+pub returns-in-Taken : goal.returns-in-Taken
+returns-in-Taken c = let a = c.args in
+    let after = accepted a.table a.lender.0 a.taker.0 in
+    let reply = sym (ap replied c.enum_told-1.given.1) ∙ c.judge-reply.ensures in (
+      ap done c.accept-after.ensures ∙ ap (handing after) reply,
+      c.accept-after.ensures ∙ ap (λ (o : Outcome (Unit {0})). beside a.table (handing after o)) reply,
+    )
+
+pub returns-in-Refused : goal.returns-in-Refused
+returns-in-Refused c = let a = c.args in
+    let after = accepted a.table a.lender.0 a.taker.0 in
+    let reply = sym (ap replied c.reply-1.given.1) ∙ c.judge-reply.ensures in (
+      ap (handing after) reply,
+      ap (λ (o : Outcome (Unit {0})). beside a.table (handing after o)) reply,
+    )

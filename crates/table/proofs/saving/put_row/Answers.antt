@@ -1,0 +1,6 @@
+-- `table::saving::put_row` meets its contract. Assumes nothing.
+use borrow.Author.Rules.{rules}
+use Rattle.table.proofs.saving.put_row.Goals as goal
+
+pub returns : goal.returns
+returns c = rw c.row_bytes-bytes.ensures at c.put_bytes.ensures

@@ -1,0 +1,18 @@
+-- `table::saving::whole_table` meets its contract: before turn u the rows below u are read. Assumes nothing.
+use Prim.Native.Nat.{ℕ, ◌≤◌, ◌<◌, ◌-◌}
+use mathlib.Core.Path.{◌≡◌, refl}
+use native.Mathlib.Nat.{not-suc-le-zero}
+use native.Mathlib.Omega.{arith}
+use borrow.Author.Rules.{rules}
+use lib.Dec.{lit≤}
+use lib.ListN.{length, get_or, length-set}
+use Rattle.bits.proofs.Lists.{filled, each_eq}
+use Rattle.table.specs.Limits.{most_wires}
+use Rattle.table.specs.TableBytes.{set_at, table_of}
+use Rattle.table.proofs.saving.whole_table.Given as goal
+
+abbrev pub invariant-loop-u : goal.invariant-loop-u
+invariant-loop-u l = (l.u ≤ most_wires) × (length l.rows ≡ most_wires) × ((j : ℕ) → j < l.u → get_or l.rows j 0 ≡ set_at l.bytes j)
+
+abbrev pub decreases-loop-u : goal.decreases-loop-u
+decreases-loop-u l = most_wires - l.u

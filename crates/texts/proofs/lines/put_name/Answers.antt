@@ -1,0 +1,24 @@
+-- `texts::lines::put_name` meets its contract: each arm puts that kind's name. Assumes nothing.
+use borrow.Author.Rules.{rules}
+use Rattle.texts.proofs.lines.put_name.Goals as goal
+
+-- LOST slice-aggregate-put-bytes
+slice-aggregate-put-bytes c = search rules
+
+-- LOST slice-aggregate-put-bytes-2
+slice-aggregate-put-bytes-2 c = search rules
+
+-- LOST slice-aggregate-put-bytes-3
+slice-aggregate-put-bytes-3 c = search rules
+
+pub returns-in-StaticWidth : goal.returns-in-StaticWidth
+returns-in-StaticWidth c = rw c.enum_told-1.given.1 c.put_bytes.ensures
+
+pub returns-in-DynamicWidth : goal.returns-in-DynamicWidth
+returns-in-DynamicWidth c = rw c.enum_told-in-DynamicWidth-1.given.1 c.put_bytes-in-DynamicWidth.ensures
+
+pub returns-in-Step : goal.returns-in-Step
+returns-in-Step c = rw c.r-1.given.1 c.put_instruction_name.ensures
+
+pub returns-in-Reuse : goal.returns-in-Reuse
+returns-in-Reuse c = rw c.enum_told-in-Reuse-1.given.1 c.put_bytes-in-Reuse.ensures

@@ -1,0 +1,12 @@
+-- `texts::lines::record_parts` meets its contract: each arm computes. Assumes nothing.
+use borrow.Author.Rules.{rules}
+use Rattle.texts.proofs.lines.record_parts.Goals as goal
+
+pub returns-in-StaticWidth : goal.returns-in-StaticWidth
+returns-in-StaticWidth c = rw c.enum_told-1.given.1
+
+pub returns-in-DynamicWidth : goal.returns-in-DynamicWidth
+returns-in-DynamicWidth c = rw c.enum_told-in-DynamicWidth-1.given.1
+
+pub returns-in-Reuse : goal.returns-in-Reuse
+returns-in-Reuse c = rw c.enum_told-in-Reuse-1.given.1

@@ -1,0 +1,11 @@
+-- `thaksipho::tables::count_word` meets its contract: a count, or a refusal whose place is small. Assumes nothing.
+use mathlib.Core.Path.{sym, ap, subst, ◌∙◌}
+use Rattle.table.specs.Calls.{tallied}
+use Rattle.thaksipho.specs.Words.{word}
+use Rattle.thaksipho.specs.Tables.{Small}
+use Rattle.thaksipho.proofs.Fitting.{kept}
+use borrow.Author.Rules.{rules}
+use Rattle.thaksipho.proofs.tables.count_word.Goals as goal
+
+pub returns-in-Refused : goal.returns-in-Refused
+returns-in-Refused c = c.refusal_word.ensures ∙ kept _ _ (subst (λ r. Small (tallied r)) c.counted-in-Refused-1.given.1 c.requires) ∙ sym (ap (λ r. word (tallied r)) c.counted-in-Refused-1.given.1)

@@ -1,0 +1,20 @@
+-- `thaksipho::tables::hand_back` meets its contract: 31, or the table's bytes. Assumes nothing.
+use mathlib.Core.Path.{refl}
+use native.Mathlib.Omega.{arith}
+use Rattle.writing.proofs.Puts.{settled_done, placed_wrote}
+use Rattle.table.proofs.Held.{rows_held}
+use Rattle.table.proofs.SavedTables.{length-table_bytes}
+use Rattle.thaksipho.proofs.Fitting.{worded, refusal_worded}
+use Rattle.thaksipho.proofs.TableWords.{no_room_for, room_for}
+use borrow.Author.Rules.{rules}
+use Rattle.thaksipho.proofs.tables.hand_back.Goals as goal
+
+pub returns-then-out-lt-BYTES : goal.returns-then-out-lt-BYTES
+returns-then-out-lt-BYTES c = let t = c.args.table in
+    refusal_worded c.refusal_word.ensures (no_room_for t (rows_held t.rows c.well_formed.0.1.1.1.0) _ c.if-out-lt-BYTES.true) (omega arith)
+
+pub returns : goal.returns
+returns c = let t = c.args.table in
+    let many = rows_held t.rows c.well_formed.0.1.1.1.0 in
+    let size = length-table_bytes t many in
+    worded (settled_done (room_for t many _ c.if-out-lt-BYTES.false) (placed_wrote c.write_table.ensures (omega arith))) refl

@@ -1,0 +1,179 @@
+-- `walk::past` meets its contract: a walk of its MIR, by hand. The struct is taken apart, `place_after` is called on the slice
+-- and the place, and a struct is made of the same slice and the place that comes back. All that the proof knows of
+-- `place_after` is that it meets its contract. The struct is Copy: what it owns is had as often as it is needed.
+-- Assumes nothing.
+use mathlib.Core.Path.{◌≡◌, refl, ap}
+use Prim.Native.Nat.{ℕ, ◌<◌, ◌^◌}
+use mathlib.Core.List.{[], ◌∷◌}
+use lib.Dec.{T as Holds}
+use lib.ListN.{length}
+use seplogic.Ra.Ura.{Ura}
+use seplogic.Ra.TreeShare.{full_share}
+use mir.Syntax.{named, w64, ty_int}
+use mir.Val.{Val, WT, has_ty, vint}
+use base.Logic.{SProp, ent, sep, emp, via, fst∗, snd∗, ex_e, id⊢}
+use base.Fml.{Lft, Share, Fml, ftrue, fat, flft}
+use prog.Memory.{Memory}
+use prog.Routine.{Routine}
+use prog.Wp.{Calls, Loops, WpFn, Tables}
+use types.Logic.{Logic, sem}
+use contract.Lifetimes.{Lfts}
+use contract.Monad.{Fun, fact}
+use contract.Running.{tables, tables_of}
+use types.Kit.{‵, raw, ◌⊛◌, given, ⋆, some, later, ◌$◌, ◌∵◌, !, qed, by, move, keep, drop, use1, use2, rewrite, split, join, learn, pick, fsplit, fjoin, suffices, frame, await, done}
+use types.Part.{whole, sub, look_in, agg}
+use types.Run.{look, init, forget, stop, fld, from, load, of_opd, and_then, no_more, assigns, land, returns, enter, alloc1, alloc0, params1, pass1, pass0, free1, free0}
+use sound.WpLaws.{FmC, fm_of, WpFn-mono}
+use denote.RattleType.{RattleType, owns}
+use denote.Laws.{Is, shows}
+use denote.Plain.{uint_Makes, uint_Lawful}
+use denote.Builtin.{u8, usize}
+use denote.Signature.{named_lft}
+use denote.Slice.{slice_val, ShrSlice}
+use denote.Steps.{only, owned, peeks, heard, nothing}
+use denote.Struct.Declared.{Declared}
+use denote.Struct.Laws as LL
+use denote.Struct.Rest.{all_own, field_own, rest, own_open, own_out, own_put}
+use denote.Struct.Values.{Values}
+use denote.Triple.Call.{calls_at}
+use denote.Triple.Entry.{Vals, on_entry}
+use denote.Triple.Spec.{Meets, triple_of}
+use denote.Triple.Table.{entered, cited}
+use denote.Triple.Walked.{says, Stays, stay_none, walk_of, Goes-none, Walks, ends_at, walked, walk_Meets}
+use denote.Exit.{yes}
+use denote.Triple.Clauses.{ensured, lasts}
+use Rattle.walk.specs.Walks.{place_after}
+use Rattle.walk.specs.declared.Walk.{Walk}
+use Rattle.walk.specs.contracts.Walk as T
+use Rattle.walk.proofs.Walk.TheLaws as T'
+use Rattle.walk.specs.contracts.place_after as after
+use Rattle.walk.proofs.place_after.Symbol as after-def
+use Rattle.walk.proofs.place_after.Symbol.{name as #walk·place-after}
+use Rattle.walk.proofs.place_after.Met as after-thm
+use Rattle.walk.specs.contracts.past.Key.{name as #walk·past}
+use Rattle.walk.specs.contracts.past as past
+use Rattle.walk.proofs.past.Statement as stated
+use Rattle.walk.proofs.past.Code as code
+use Rattle.walk.proofs.past.Goals as goal
+
+abbrev B : Lfts 1 → RattleType
+B κs = T.the_row (named_lft 1 0 tt κs)
+
+abbrev stayed : Stays (past.ended).signature.params (past.ended).kept
+stayed = (stay_none B yes, tt)
+
+
+module _ {M : Type 1} {𝓤 : Ura M} (𝓛 : Logic 𝓤) (mem : Memory → SProp 𝓤) (run : Routine → Fun 𝓤) where
+  -- the contract that the proof cites
+  abbrev PlaceAfter : Contract 𝓤
+  PlaceAfter = triple_of 𝓛 after.signature (after.spec 𝓛 mem run)
+
+
+module _ {M : Type 1} {𝓤 : Ura M} (𝓛 : Logic 𝓤) (mem : Memory → SProp 𝓤) (run : Routine → Fun 𝓤) (κ : Lft) (q : Share) (d : Walk) where
+  open 𝓛 use {H}
+
+  abbrev mach : Val
+  mach = T'.lowered d
+
+  -- the machine value of circuit
+  abbrev v : Val
+  v = slice_val d.circuit.ref_ptr (length d.circuit.now)
+
+  abbrev next : ℕ
+  next = place_after d.circuit.now d.at
+
+  abbrev Post : Val → SProp 𝓤
+  Post = (walk_of 𝓛 past.ended stayed (past.clauses 𝓛 mem run)).post (((κ, tt), (q, tt), tt, (d, tt), (mach ∷ [], tt)), tt)
+
+  abbrev Own : Fml
+  Own = (B (κ, tt)).own_val d (mach ∷ [])
+
+  -- the struct's type and laws, and d's fields' values
+  abbrev D : Declared
+  D = T.the_type (named_lft 1 0 tt (κ, tt))
+
+  abbrev L : LL.Laws D
+  L = T'.the_laws (named_lft 1 0 tt (κ, tt))
+
+  abbrev vd : Values D.parts
+  vd = (d.circuit, (d.at, tt))
+
+  -- what the callee is passed
+  abbrev passed : Vals after.signature (κ, tt)
+  passed = (v ∷ [], (vint w64 d.at ∷ [], tt))
+
+  abbrev to : (PlaceAfter 𝓛 mem run).Ghost
+  to = (((κ, tt), (q, tt), tt, (d.circuit, (d.at, tt)), passed), tt)
+
+  asked : ent 𝓤 (on_entry 𝓛 after.signature (κ, tt) (q, tt) (d.circuit, (d.at, tt)) passed) ((PlaceAfter 𝓛 mem run).pre to)
+  asked = qed 𝓛 ((‵ (flft κ q) ⊛ ‵ ftrue) ∷ ‵ (owns (ShrSlice (named 0) κ u8 ∷ usize ∷ []) (d.circuit, (d.at, tt)) passed) ∷ []) ∵ join ! $ frame ! $ done !
+
+  -- what the struct owns gives what the callee asks, and is kept
+  apart : d.at < 2 ^ 64 → ent 𝓤 (on_entry 𝓛 past.signature (κ, tt) (q, tt) (d, tt) (mach ∷ [], tt)) (sep 𝓤 ((PlaceAfter 𝓛 mem run).pre to) (sem 𝓛 Own))
+  apart fits =
+      qed 𝓛 ((‵ (flft κ q) ⊛ ‵ ftrue) ∷ ‵ (owns (B (κ, tt) ∷ []) (d, tt) (mach ∷ [], tt)) ∷ []) ∵
+      move ! (1 ∷ []) $ fsplit ! $ move ! (1 ∷ []) $ drop ! $ use1 𝓛 (‵ Own ⊛ ‵ Own) ((LL.copy D (T'.the_copy (named_lft 1 0 tt (κ, tt))) 𝓛).twice d (mach ∷ [])) $ split ! $
+      use1 𝓛 (given (mach ∷ [] ≡ mach ∷ []) (‵ (all_own D.parts L vd))) (own_open 𝓛 D L vd mach) $ learn ! (λ _. use1 𝓛 (‵ (field_own D.parts L 0 d.circuit) ⊛ ‵ (rest D.parts L 0 vd)) (own_out 𝓛 D.parts L 0 vd) $ split ! $
+      -- [what circuit owns; what at owns; what the struct owns; the token]
+      move ! (1 ∷ []) $ drop ! $ nothing ! $ owned ! usize (Is usize) (uint_Makes 𝓛 w64) d.at _ (refl, fits) $ fjoin ! $ move ! (1 ∷ 0 ∷ []) $ fjoin ! $
+      move ! (2 ∷ 0 ∷ []) $ use2 𝓛 (raw ((PlaceAfter 𝓛 mem run).pre to)) asked $ frame ! $ done !)
+
+  -- of the callee's `ensured`, the clause alone: it has no `&mut`, so what is said of last values is dropped
+  said : (n : ℕ) → ent 𝓤 (ensured 𝓛 after.ended (after.clauses 𝓛 mem run) (κ, tt) (d.circuit, (d.at, tt)) tt n) (fact 𝓤 (n ≡ next))
+  said n = ex_e 𝓤 _ (λ ws. snd∗ 𝓤 (sem 𝓛 (lasts after.ended (κ, tt) (d.circuit, (d.at, tt)) ws)) (fact 𝓤 (n ≡ next)))
+
+  -- the result: the same circuit, at the place that the callee gave
+  abbrev moved : ℕ → Walk
+  moved n = record { circuit = d.circuit; at = n }
+
+  exits : (n : ℕ) → n ≡ next → n < 2 ^ 64 → ent 𝓤 (⋆ 𝓛 ((‵ (flft κ q) ⊛ ‵ ftrue) ∷ ‵ Own ∷ [])) (Post (T'.lowered (moved n)))
+  exits n e fits =
+      qed 𝓛 ((‵ (flft κ q) ⊛ ‵ ftrue) ∷ ‵ Own ∷ []) ∵
+      suffices ! _ (ends_at 𝓛 past.ended stayed (past.clauses 𝓛 mem run) (((κ, tt), (q, tt), tt, (d, tt), (mach ∷ [], tt)), tt) (T'.lowered (moved n)) (moved n) (tt, tt) (tt, tt)) $ says ! (refl, e) $
+      frame ! $ use1 𝓛 (‵ Own ⊛ ‵ Own) ((LL.copy D (T'.the_copy (named_lft 1 0 tt (κ, tt))) 𝓛).twice d (mach ∷ [])) $ split ! $ nothing ! $ move ! (1 ∷ 0 ∷ []) $ fjoin ! $ frame ! $
+      -- [what the struct owns]: the new place's facts take the place of at's
+      owned ! usize (Is usize) (uint_Makes 𝓛 w64) n _ (refl, fits) $ move ! (1 ∷ 0 ∷ []) $ by ! (own_put 𝓛 D L 1 vd n mach)
+
+  module _ (C : Calls 𝓤 H) (Λ : Loops 𝓤 H) (fm : FmC 𝓤 H 𝓛.laws C) (known : Triple 𝓤 (C #walk·place-after) (PlaceAfter 𝓛 mem run)) where
+    walk : Holds (has_ty (T'.mir (named 0)) mach) × WT mach → ent 𝓤 (on_entry 𝓛 past.signature (κ, tt) (q, tt) (d, tt) (mach ∷ [], tt)) (WpFn 𝓤 H C Λ code.function (mach ∷ []) Post)
+    walk wt =
+        qed 𝓛 (raw (on_entry 𝓛 past.signature (κ, tt) (q, tt) (d, tt) (mach ∷ [], tt)) ∷ []) ∵ enter ! C Λ code.function (mach ∷ []) _ $
+        alloc1 ! (λ l₀. alloc1 ! (λ l₁. alloc1 ! (λ l₂. alloc1 ! (λ l₃. alloc1 ! (λ l₄. alloc1 ! (λ l₅. alloc0 ! $ params1 ! $ pass1 ! (init ! 8 refl wt) $ pass0 ! $
+        assigns ! (of_opd ! (load ! (from ! (fld ! refl (stop !))) (look_in ! 8 (sub ! 0 refl (whole !))))) (from ! (stop !)) (init ! 6 refl (tt, wt.1.0)) $
+        assigns ! (of_opd ! (load ! (from ! (fld ! refl (stop !))) (look_in ! 8 (sub ! 0 refl (whole !))))) (from ! (stop !)) (init ! 2 refl (tt, wt.1.0)) $
+        assigns ! (of_opd ! (load ! (from ! (fld ! refl (stop !))) (look_in ! 8 (sub ! 1 refl (whole !))))) (from ! (stop !)) (init ! 0 refl (tt, wt.1.1.0)) $
+        move ! (12 ∷ []) $ use1 𝓛 (raw ((PlaceAfter 𝓛 mem run).pre to) ⊛ ‵ Own) (apart wt.1.1.0.fits) $ split ! $
+        calls_at ! fm (PlaceAfter 𝓛 mem run) known to (and_then ! (load ! (from ! (stop !)) (look ! 4 refl)) (and_then ! (load ! (from ! (stop !)) (look ! 2 refl)) (no_more !))) (λ u.
+        use1 𝓛 (later (some (λ (n : ℕ). ((‵ (flft κ q) ⊛ ‵ ftrue) ⊛ ‵ (usize.own_val n (u ∷ []))) ⊛ raw (ensured 𝓛 after.ended (after.clauses 𝓛 mem run) (κ, tt) (d.circuit, (d.at, tt)) tt n)))) (id⊢ 𝓤 _) $ await ! tt $ pick ! (λ n.
+        split ! $ move ! (1 ∷ []) $ use1 𝓛 (raw (fact 𝓤 (n ≡ next))) (said n) $ heard ! (n ≡ next) (λ e. split ! $ move ! (1 ∷ []) $
+        -- [the place after; the token; what the struct owns; _5; …; _4; …; _3; …; _2; …; _1; …; room for _0; …]
+        peeks ! usize (Is usize) (shows 𝓛 usize) n (u ∷ []) (λ is.
+        land ! (from ! (stop !)) (init ! 7 refl ((uint_Lawful 𝓛 w64).typed n _ is).0) $ rewrite ! 7 (λ (x : Val). ‵ (fat full_share (ty_int w64) l₃ 0 x)) (ap only is.0) refl $
+        assigns ! (agg ! (and_then ! (load ! (from ! (stop !)) (look ! 9 refl)) (and_then ! (load ! (from ! (stop !)) (look ! 7 refl)) (no_more !)))) (from ! (stop !)) (init ! 13 refl (tt, (wt.1.0, (record { fits = is.1 }, tt)))) $
+        returns ! (look ! 13 refl) $ forget ! 3 refl $ forget ! 5 refl $ forget ! 7 refl $ forget ! 9 refl $ forget ! 11 refl $ forget ! 13 refl $
+        move ! (13 ∷ 14 ∷ []) $ free1 ! $ move ! (11 ∷ 12 ∷ []) $ free1 ! $ move ! (9 ∷ 10 ∷ []) $ free1 ! $ move ! (7 ∷ 8 ∷ []) $ free1 ! $ move ! (5 ∷ 6 ∷ []) $ free1 ! $ move ! (3 ∷ 4 ∷ []) $ free1 ! $ free0 ! $
+        keep ! (1 ∷ 2 ∷ []) $ by ! (exits n e is.1)))))))))))
+
+
+module _ {M : Type 1} {𝓤 : Ura M} (𝓛 : Logic 𝓤) (mem : Memory → SProp 𝓤) (run : Routine → Fun 𝓤) where
+  open 𝓛 use {H}
+
+  past_walks : (C : Calls 𝓤 H) (Λ : Loops 𝓤 H) → FmC 𝓤 H 𝓛.laws C → Triple 𝓤 (C #walk·place-after) (PlaceAfter 𝓛 mem run)
+      → Walks 𝓛 past.ended stayed (WpFn 𝓤 H C Λ code.function) (past.clauses 𝓛 mem run)
+  past_walks C Λ fm known = walked 𝓛 past.ended stayed (past.clauses 𝓛 mem run) (WpFn 𝓤 H C Λ code.function) (λ κs. (LL.vals (T.the_type (named_lft 1 0 tt κs)) (T'.the_laws (named_lft 1 0 tt κs)), tt)) (λ κs. (LL.tells (T.the_type (named_lft 1 0 tt κs)) (T'.the_laws (named_lft 1 0 tt κs)), tt))
+      (λ κs qs bounds a g are. via 𝓤 _ (fst∗ 𝓤 _ (emp 𝓤)) (walk 𝓛 mem run κs.0 qs.0 a.0 C Λ fm known ((LL.lawful (T.the_type (named_lft 1 0 tt κs)) (T'.the_laws (named_lft 1 0 tt κs)) 𝓛).typed a.0 _ are.0).0))
+
+
+past_meets : {M : Type 1} {𝓤 : Ura M} (𝓛 : Logic 𝓤) (mem : Memory → SProp 𝓤) (run : Routine → Fun 𝓤) (𝓣 : Tables 𝓤 𝓛.H)
+    → Triple 𝓤 (𝓣.C #walk·place-after) (PlaceAfter 𝓛 mem run)
+    → Meets 𝓛 past.signature (WpFn 𝓤 𝓛.H 𝓣.C 𝓣.Λ code.function) (past.spec 𝓛 mem run)
+past_meets {𝓤 = 𝓤} 𝓛 mem run 𝓣 known-after = walk_Meets 𝓛 past.ended stayed (Goes-none 𝓛 1 B yes (λ κs x f. refl), tt) (past.clauses 𝓛 mem run) (WpFn 𝓤 𝓛.H 𝓣.C 𝓣.Λ code.function) (WpFn-mono 𝓤 𝓛.H 𝓛.laws 𝓣 code.function)
+    (past_walks 𝓛 mem run 𝓣.C 𝓣.Λ (fm_of 𝓤 𝓛.H 𝓛.laws 𝓣) known-after)
+
+pub past_spec : {M : Type 1} → stated.statement M
+unfolding code.routine tables_of
+past_spec 𝓤 𝓛 𝓜 𝓡 =
+    entered 𝓤 𝓛.H (triple_of 𝓛 past.signature (past.spec 𝓛 𝓜.mem 𝓡.run))
+    (tables 𝓤 𝓛.H 𝓜 𝓡 code.env).C (tables 𝓤 𝓛.H 𝓜 𝓡 code.env).Λ #walk·past code.function (code.unfolded 𝓤 𝓛.H 𝓜 𝓡)
+    (past_meets 𝓛 𝓜.mem 𝓡.run (tables_of 𝓤 𝓛.H 𝓜 (tables 𝓤 𝓛.H 𝓜 𝓡 code.env))
+    (cited 𝓤 𝓛.H (PlaceAfter 𝓛 𝓜.mem 𝓡.run) 𝓜 𝓡 code.env #walk·place-after after-def.routine code.calls-walk::place-after (after-thm.met 𝓤 𝓛 𝓜 𝓡)))

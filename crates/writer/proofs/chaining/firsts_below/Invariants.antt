@@ -1,0 +1,14 @@
+-- `writer::chaining::firsts_below` meets its contract: before turn x, the count is that of the first wires below x. Assumes nothing.
+use Prim.Native.Nat.{◌+◌, ◌-◌, ◌≤◌}
+use mathlib.Core.Path.{◌≡◌, sym, ap, ◌∙◌}
+use native.Mathlib.Omega.{arith}
+use borrow.Author.Rules.{rules}
+use Rattle.writer.specs.Chains.{begins, firsts_below}
+use Rattle.writer.proofs.Chains.{firsts_none, firsts_more, begins_few}
+use Rattle.writer.proofs.chaining.firsts_below.Given as goal
+
+abbrev pub invariant-loop-x : goal.invariant-loop-x
+invariant-loop-x l = (l.x ≤ l.wire.0) × (l.count ≤ l.x) × (l.count ≡ firsts_below l.lenders.lenders l.width l.x)
+
+abbrev pub decreases-loop-x : goal.decreases-loop-x
+decreases-loop-x l = l.wire.0 - l.x

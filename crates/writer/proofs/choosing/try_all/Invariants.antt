@@ -1,0 +1,16 @@
+-- `writer::choosing::try_all` meets its contract: before turn x the heads of the wires below x are tried. Assumes nothing.
+use Prim.Native.Nat.{◌-◌, ◌≤◌}
+use mathlib.Core.Path.{◌≡◌, refl, ap, ◌∙◌}
+use native.Mathlib.Omega.{arith}
+use native.Mathlib.Numerals.{add-one}
+use Rattle.writer.specs.Heads.{Fit, tried, tried_below}
+use Rattle.writer.proofs.Candidates.{fit_tried}
+use borrow.Author.Rules.{rules}
+use borrow.Author.Rules.{rules}
+use Rattle.writer.proofs.choosing.try_all.Given as goal
+
+abbrev pub invariant-loop-x : goal.invariant-loop-x
+invariant-loop-x l = (l.x ≤ l.valid.width) × Fit l.valid l.lenders l.indices l.candidates l.firsts l.seconds × (l.candidates ≡ tried_below l.lenders l.indices l.valid l.forms l.firsts l.seconds l.x l.initial.candidates)
+
+abbrev pub decreases-loop-x : goal.decreases-loop-x
+decreases-loop-x l = l.valid.width - l.x

@@ -1,0 +1,40 @@
+-- `writer::choosing::try_takers` meets its contract: before turn x the heads of the takers below x are tried. Assumes nothing.
+use Prim.Native.Nat.{◌-◌, ◌≤◌}
+use mathlib.Core.Path.{◌≡◌, refl, sym, ap, ◌∙◌}
+use mathlib.Core.Logic.{⊎_elim}
+use native.Mathlib.Omega.{arith}
+use native.Mathlib.Numerals.{add-one}
+use borrow.Author.Tests.{eq-eqb, ne_eqb}
+use Rattle.basics.proofs.Lists.{get_or-inside}
+use Rattle.pairs.specs.Lending.{nobody}
+use Rattle.writer.specs.Heads.{Fit, tried, tried_takers}
+use Rattle.writer.proofs.Candidates.{fit_tried}
+use borrow.Author.Rules.{rules}
+use borrow.Author.Rules.{rules}
+use Rattle.writer.proofs.choosing.try_takers.Goals as goal
+
+pub loop-x-init : goal.loop-x-init
+unfolding tried_takers
+loop-x-init c = (omega arith, c.requires, refl)
+
+pub bounds-lenders-x : goal.bounds-lenders-x
+bounds-lenders-x c = omega (arith, c.loop-x.invariant.1.narrow)
+
+pub try_head-requires : goal.try_head-requires
+try_head-requires c = let l = c.loop-x in (l.invariant.1, omega (arith, l.invariant.1.narrow, c.loop-x-test.true))
+
+pub loop-x-preserved : goal.loop-x-preserved
+unfolding tried_takers
+loop-x-preserved c = let l = c.loop-x in
+    let inside = get_or-inside c.args.lenders.now l.x nobody 0 (omega (arith, c.requires.sized_lenders, c.requires.narrow, c.loop-x-test.true)) in
+    ⊎_elim
+    (λ w. (
+      omega arith,
+      fit_tried _ _ _ _ _ _ _ (w.3 ∙ w.2.ensures) l.invariant.1,
+      rw (add-one, eq-eqb _ _ (inside ∙ w.0.taken)) (w.3 ∙ w.2.ensures ∙ ap (tried c.args.lenders.now c.args.indices.now c.args.valid c.args.forms.now c.args.firsts.now c.args.seconds.now l.x) l.invariant.2),
+    ))
+    (λ w. (omega arith, rw w.1 l.invariant.1, rw (add-one, ne_eqb _ _ (λ e. w.0.left (sym inside ∙ e))) (w.1 ∙ l.invariant.2)))
+    c.if-lenders-x.branch
+
+pub returns : goal.returns
+returns c = let e : c.loop-x.x ≡ c.args.valid.width = omega (arith, c.loop-x.invariant.0) in rw e at c.loop-x.invariant.2

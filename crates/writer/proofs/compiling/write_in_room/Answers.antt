@@ -1,0 +1,14 @@
+-- `writer::compiling::write_in_room` meets its contract: 31 with the length needed, or the dynamic circuit. Assumes nothing.
+use native.Mathlib.Omega.{arith}
+use Rattle.writer.proofs.Compiles.{room_short, room_enough}
+use borrow.Author.Rules.{rules}
+use Rattle.writer.proofs.compiling.write_in_room.Goals as goal
+
+pub returns-then-out-circuit : goal.returns-then-out-circuit
+returns-then-out-circuit c = room_short _ c.args.circuit.now _ c.requires.1.1 c.if-out-circuit.true
+
+pub write_dynamic-bytes-requires : goal.write_dynamic-bytes-requires
+write_dynamic-bytes-requires c = (c.requires.0, (c.requires.1.0, omega (arith, c.requires.1.1, c.if-out-circuit.false)))
+
+pub returns : goal.returns
+returns c = room_enough c.args.out.now c.args.circuit.now _ c.requires.1.1 c.if-out-circuit.false c.write_dynamic-bytes.ensures c.qubits_for-qubits.ensures

@@ -1,0 +1,20 @@
+-- `writer::copying::copy_two` meets its contract. Assumes nothing.
+use mathlib.Core.Path.{◌∙◌}
+use native.Mathlib.Omega.{arith}
+use lib.ListN.{length-set}
+use Rattle.writing.proofs.Puts.{placed_length}
+use Rattle.writer.proofs.Copies.{copied_two}
+use borrow.Author.Rules.{rules}
+use Rattle.writer.proofs.copying.copy_two.Goals as goal
+
+pub bounds-out-to-2 : goal.bounds-out-to-2
+bounds-out-to-2 c = simp length-set (omega (arith, c.requires.0.0, c.requires.1))
+
+pub bounds-out-to-3 : goal.bounds-out-to-3
+bounds-out-to-3 c = simp length-set (omega (arith, c.requires.0.0, c.requires.1))
+
+pub shape_of-out : goal.shape_of-out
+shape_of-out c = placed_length c.put_bytes.ensures ∙ simp length-set
+
+pub returns : goal.returns
+returns c = copied_two c.args.out.now c.args.circuit.now _ _ _ c.requires.1 c.requires.0.1 _ _ c.requires.0.0 c.put_bytes.ensures

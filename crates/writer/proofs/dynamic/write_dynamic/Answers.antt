@@ -1,0 +1,13 @@
+-- `writer::dynamic::write_dynamic` meets its contract: the 02 record and the instructions behind it. Assumes nothing.
+use Rattle.circuits.proofs.Rewrites.{accepted}
+use Rattle.writer.proofs.Written.{steps_fit, wrote_output}
+use borrow.Author.Rules.{rules}
+use Rattle.writer.proofs.dynamic.write_dynamic.Goals as goal
+
+pub write_steps-requires : goal.write_steps-requires
+write_steps-requires c = let a = accepted _ c.requires.0 in
+    (c.requires.0, (c.requires.1.0, steps_fit _ _ a _ c.qubits_for-qubits.ensures c.write_record-at.ensures c.requires.1.1))
+
+pub returns : goal.returns
+returns c = let a = accepted _ c.requires.0 in
+    wrote_output _ _ a _ c.qubits_for-qubits.ensures c.write_record-at.ensures c.requires.1.1 c.write_steps.ensures

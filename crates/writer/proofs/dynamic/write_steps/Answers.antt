@@ -1,0 +1,22 @@
+-- `writer::dynamic::write_steps` meets its contract: what is kept of the instructions is what linking and writing them ask for. Assumes nothing.
+use Prim.Native.Nat.{ℕ}
+use mathlib.Core.Path.{refl}
+use native.Mathlib.Omega.{arith}
+use lib.ListN.{length-replicate}
+use Rattle.circuits.specs.Limits.{most_instructions}
+use Rattle.circuits.proofs.Rewrites.{accepted}
+use Rattle.writer.proofs.Turns.{notes_low}
+use Rattle.writer.proofs.Written.{few_instructions}
+use borrow.Author.Rules.{rules}
+use Rattle.writer.proofs.dynamic.write_steps.Goals as goal
+
+pub overflow_cast-instructions : goal.overflow_cast-instructions
+overflow_cast-instructions c = omega (arith, few_instructions _ _ (accepted _ c.requires.0))
+
+pub link-requires : goal.link-requires
+link-requires c = let a = accepted _ c.requires.0 in
+    let size = length-replicate {A = ℕ} most_instructions c.args.valid.instructions in
+    ((few_instructions _ _ a, notes_low _ _ a c.args.lenders.lenders c.requires.1.0), (refl, (size, size)))
+
+pub write_in_order-requires : goal.write_in_order-requires
+write_in_order-requires c = (c.requires.0, (c.requires.1.0, (c.link.ensures.0, (c.link.ensures.1, c.requires.1.1))))

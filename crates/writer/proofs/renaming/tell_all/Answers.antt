@@ -1,0 +1,25 @@
+-- `writer::renaming::tell_all` meets its contract: before turn x what is stored for the wires below x tells their qubits. Assumes nothing.
+use Prim.Native.Nat.{ℕ, ◌-◌, ◌≤◌, ◌<◌}
+use mathlib.Core.Path.{◌≡◌, refl}
+use native.Mathlib.Nat.{not-suc-le-zero}
+use native.Mathlib.Omega.{arith}
+use borrow.Author.Rules.{rules}
+use lib.ListN.{length, get_or, length-set}
+use Rattle.circuits.specs.Limits.{most_wires}
+use Rattle.writer.specs.Chains.{Tells}
+use Rattle.writer.proofs.Chains.{tells_more}
+use Rattle.writer.proofs.renaming.tell_all.Goals as goal
+
+pub loop-x-init : goal.loop-x-init
+loop-x-init c = (search rules, refl, λ j l. absurd (not-suc-le-zero l))
+
+pub tell-qubit-requires : goal.tell-qubit-requires
+tell-qubit-requires c = let h = c.loop-x in (search rules, (h.invariant.1, (c.requires, h.invariant.2)))
+
+pub loop-x-preserved : goal.loop-x-preserved
+loop-x-preserved c = let a = c.args in
+    let h = c.loop-x in
+    (search rules, simp length-set h.invariant.1, tells_more a.lenders.lenders a.width h.told h.x c.tell-qubit.result (search rules) h.invariant.2 c.tell-qubit.ensures)
+
+pub returns : goal.returns
+returns c = (c.loop-x.invariant.1, λ x l. c.loop-x.invariant.2 x (omega arith))

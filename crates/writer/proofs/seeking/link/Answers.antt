@@ -1,0 +1,39 @@
+-- `writer::seeking::link` meets its contract: before each turn the instructions from the index on are linked. Assumes nothing.
+use Prim.Native.Nat.{ℕ, ◌≤◌}
+use mathlib.Core.Path.{◌≡◌, refl, ap, ◌∙◌}
+use mathlib.Core.List.{List}
+use native.Mathlib.Omega.{arith}
+use lib.ListN.{length, length-set}
+use Rattle.records.specs.declared.instructions.Instruction.{Instruction}
+use Rattle.circuits.specs.Limits.{most_wires, most_instructions}
+use Rattle.writer.specs.Heads.{Tabled, Linked}
+use Rattle.writer.proofs.Links.{linked_none, linked_more}
+use borrow.Author.Rules.{rules}
+use borrow.Author.Rules.{rules}
+use Rattle.writer.proofs.seeking.link.Goals as goal
+
+pub loop-index-init : goal.loop-index-init
+loop-index-init c = (omega arith, ap length c.requires.1.0, c.requires.1.1.0, c.requires.1.1.1, λ is forms tab. linked_none tab.all c.requires.1.0)
+
+pub bounds-firsts-index : goal.bounds-firsts-index
+bounds-firsts-index c = omega (arith, c.loop-index.invariant.0, c.requires.0.0)
+
+pub bounds-seconds-index : goal.bounds-seconds-index
+bounds-seconds-index c = omega (arith, c.loop-index.invariant.0, c.requires.0.0)
+
+pub link_one-requires : goal.link_one-requires
+link_one-requires c = let l = c.loop-index in (c.requires.0.1 _ (omega (arith, l.invariant.0)), omega (arith, l.invariant.0, c.requires.0.0))
+
+pub loop-index-preserved : goal.loop-index-preserved
+loop-index-preserved c = let l = c.loop-index in
+    (
+      omega (arith, l.invariant.0),
+      ap length c.link_one.ensures.0 ∙ simp length-set l.invariant.1,
+      ap length c.link_one.ensures.1.0 ∙ simp length-set l.invariant.2,
+      ap length c.link_one.ensures.1.1 ∙ simp length-set l.invariant.3,
+      λ is forms tab. linked_more tab (omega (arith, l.invariant.0)) (omega (arith, l.invariant.0, c.requires.0.0)) _ l.invariant.1 (omega arith) (l.invariant.4 is forms tab) l.invariant.2 l.invariant.3
+          refl refl c.link_one.ensures.0 c.link_one.ensures.1.0 c.link_one.ensures.1.1,
+    )
+
+pub returns : goal.returns
+returns c = let e : c.loop-index.index ≡ 0 = omega arith in (c.loop-index.invariant.1, λ is forms tab. rw e at (c.loop-index.invariant.4 is forms tab))
