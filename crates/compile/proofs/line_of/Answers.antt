@@ -14,13 +14,13 @@ use borrow.Author.Rules.{rules}
 use Rattle.compile.proofs.line_of.Goals as goal
 
 pub overflow_add-qubits : goal.overflow_add-qubits
-overflow_add-qubits c = let few = subst (λ a. wires_told (compiling_of a) ≤ most_wires) c.answer-1.given.1 c.requires.1 in
+overflow_add-qubits c = let few = subst (λ a. wires_told (compiling_of a) ≤ most_wires) c.in-Done.is c.requires.answer_bound in
     omega arith
 
 pub returns-in-Done : goal.returns-in-Done
 returns-in-Done c = let put = c.put_compiled.ensures in
     let told = c.answer-1.given in
-    let few = subst (λ a. wires_told (compiling_of a) ≤ most_wires) told.1 c.requires.1 in
+    let few = subst (λ a. wires_told (compiling_of a) ≤ most_wires) told.1 c.requires.answer_bound in
     let counts = told.0.0 in
     let short =
     counts_length (counts.qubits + counts.pairs) counts.qubits counts.pairs (text " bytes ") counts.bytes

@@ -5,9 +5,9 @@ use Rattle.listing.proofs.write_choice.Goals as goal
 
 pub write_pairs-requires : goal.write_pairs-requires
 write_pairs-requires c = (
-      list_sized c.args.table c.requires.0 _ c.greedy-chosen.ensures.1,
-      further_room c.args.table c.requires.0 _ c.greedy-chosen.ensures.1 c.requires.1 c.put_summary-to.ensures,
+      list_sized c.args.table c.requires.table_value _ c.greedy-chosen.ensures.1,
+      further_room c.args.table c.requires.table_value _ c.greedy-chosen.ensures.1 c.requires.longest_listing_in_bounds c.put_summary-to.ensures,
     )
 
 pub returns : goal.returns
-returns c = listing_written c.args.table c.requires.0 _ c.greedy-chosen.ensures.1 c.requires.1 c.put_summary-to.ensures c.write_pairs.ensures
+returns c = listing_written c.args.table c.requires.table_value _ c.greedy-chosen.ensures.1 c.requires.longest_listing_in_bounds c.put_summary-to.ensures c.write_pairs.ensures

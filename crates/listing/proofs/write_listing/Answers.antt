@@ -9,16 +9,16 @@ use Rattle.listing.proofs.write_listing.Goals as goal
 
 pub write_choice-requires : goal.write_choice-requires
 write_choice-requires c = let started = c.start-started in (
-      started_right _ (sym started.ensures.0 ∙ ap (λ a. handing started.result.table (replied_at_start a)) c.enum_told-1.given.1),
+      started_right _ (sym started.ensures.0 ∙ ap (λ a. handing started.result.table (replied_at_start a)) c.in-Done.is),
       omega arith,
     )
 
 pub returns-in-Done : goal.returns-in-Done
 returns-in-Done c = let started = c.start-started in
-    listing_printed _ (sym started.ensures.0 ∙ ap (λ a. handing started.result.table (replied_at_start a)) c.enum_told-1.given.1)
+    listing_printed _ (sym started.ensures.0 ∙ ap (λ a. handing started.result.table (replied_at_start a)) c.in-Done.is)
     c.write_choice.ensures
 
 pub returns-in-Refused : goal.returns-in-Refused
 returns-in-Refused c = let started = c.start-started in
-    refusal_printed _ (sym started.ensures.0 ∙ ap (λ a. handing started.result.table (replied_at_start a)) c.answer-1.given.1) (omega arith)
+    refusal_printed _ (sym started.ensures.0 ∙ ap (λ a. handing started.result.table (replied_at_start a)) c.in-Refused.is) (omega arith)
     c.put_refusal.ensures

@@ -12,14 +12,14 @@ use Rattle.listing.specs.Printing.{pair_lines}
 use Rattle.listing.proofs.write_pairs.Goals as goal
 
 pub loop-i-init : goal.loop-i-init
-loop-i-init c = (search rules, remaining_start c.requires.1)
+loop-i-init c = (search rules, remaining_start c.requires.list_in_bounds)
 
 pub loop-i-preserved : goal.loop-i-preserved
 loop-i-preserved c = (
   omega arith,
   let turn = c.loop-i in
       let more = c.loop-i-test.true in
-      let next = pair_next c.args.list.pairs c.args.list.length c.requires.0.held turn.i _ more in
+      let next = pair_next c.args.list.pairs c.args.list.length c.requires.sized.held turn.i _ more in
       remaining_placed _ c.put_pair-to.ensures (rw next at turn.invariant.1),
 )
 
@@ -27,4 +27,4 @@ pub shape_of-out : goal.shape_of-out
 shape_of-out c = c.loop-i.invariant.1.same
 
 pub returns : goal.returns
-returns c = remaining_end (ap pair_lines (pairs_over c.args.list.pairs c.args.list.length c.requires.0.held _ c.loop-i-test.false)) c.loop-i.invariant.1
+returns c = remaining_end (ap pair_lines (pairs_over c.args.list.pairs c.args.list.length c.requires.sized.held _ c.loop-i-test.false)) c.loop-i.invariant.1

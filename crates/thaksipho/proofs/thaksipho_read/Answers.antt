@@ -10,13 +10,13 @@ use borrow.Author.Rules.{rules}
 use Rattle.thaksipho.proofs.thaksipho_read.Goals as goal
 
 pub overflow_mul-result : goal.overflow_mul-result
-overflow_mul-result c = omega (arith, told_fits (ap circuit_value (sym (ap reading_of c.c-1.given.1) ∙ c.read.ensures)) (read_fits c.args.circuit.now))
+overflow_mul-result c = omega (arith, told_fits (ap circuit_value (sym (ap reading_of c.in-Valid.is) ∙ c.read.ensures)) (read_fits c.args.circuit.now))
 
 pub overflow_add-result : goal.overflow_add-result
-overflow_add-result c = omega (arith, told_fits (ap circuit_value (sym (ap reading_of c.c-1.given.1) ∙ c.read.ensures)) (read_fits c.args.circuit.now))
+overflow_add-result c = omega (arith, told_fits (ap circuit_value (sym (ap reading_of c.in-Valid.is) ∙ c.read.ensures)) (read_fits c.args.circuit.now))
 
 pub returns-in-Valid : goal.returns-in-Valid
-returns-in-Valid c = ap (λ (o : Outcome Circuit). word (circuit_value o)) (sym (ap reading_of c.c-1.given.1) ∙ c.read.ensures)
+returns-in-Valid c = ap (λ (o : Outcome Circuit). word (circuit_value o)) (sym (ap reading_of c.in-Valid.is) ∙ c.read.ensures)
 
 pub returns-in-Refused : goal.returns-in-Refused
-returns-in-Refused c = refusal_tells c.refusal_word.ensures (ap circuit_value (sym (ap reading_of c.r-1.given.1) ∙ c.read.ensures)) (read_fits c.args.circuit.now)
+returns-in-Refused c = refusal_tells c.refusal_word.ensures (ap circuit_value (sym (ap reading_of c.in-Refused.is) ∙ c.read.ensures)) (read_fits c.args.circuit.now)

@@ -7,9 +7,9 @@ use borrow.Author.Rules.{rules}
 use Rattle.thaksipho.proofs.thaksipho_rewrite.Goals as goal
 
 pub returns-in-Done : goal.returns-in-Done
-returns-in-Done c = worded c.rewrite.ensures (sym (ap (λ r. word (rewriting_of r)) c.n-1.given.1))
+returns-in-Done c = worded c.rewrite.ensures (sym (ap (λ r. word (rewriting_of r)) c.in-Done.is))
 
 pub returns-in-Refused : goal.returns-in-Refused
-returns-in-Refused c = let e = sym (ap rewriting_of c.r-1.given.1) ∙ c.rewrite.ensures.tells in
+returns-in-Refused c = let e = sym (ap rewriting_of c.in-Refused.is) ∙ c.rewrite.ensures.tells in
     worded c.rewrite.ensures
-    (c.refusal_word.ensures ∙ kept _ _ (told_fits e (rewrite_fits _ _)).1 ∙ sym (ap (λ r. word (rewriting_of r)) c.r-1.given.1))
+    (c.refusal_word.ensures ∙ kept _ _ (told_fits e (rewrite_fits _ _)).1 ∙ sym (ap (λ r. word (rewriting_of r)) c.in-Refused.is))

@@ -6,10 +6,10 @@ use borrow.Author.Rules.{rules}
 use Rattle.walk.proofs.place_after.Goals as goal
 
 pub returns-in-Read : goal.returns-in-Read
-returns-in-Read c = ap (moved_to c.args.at) (sym (ap answered c.next-1.given.1) ∙ c.record_at.ensures)
+returns-in-Read c = ap (moved_to c.args.at) (sym (ap answered c.in-Read.is) ∙ c.record_at.ensures)
 
 pub returns-in-Refused : goal.returns-in-Refused
-returns-in-Refused c = ap (moved_to c.args.at) (sym (ap answered c.enum_told-1.given.1) ∙ c.record_at.ensures)
+returns-in-Refused c = ap (moved_to c.args.at) (sym (ap answered c.in-Refused.is) ∙ c.record_at.ensures)
 
 pub returns-in-End : goal.returns-in-End
-returns-in-End c = ap (moved_to c.args.at) (sym (ap answered c.enum_told-in-End-1.given.1) ∙ c.record_at.ensures)
+returns-in-End c = ap (moved_to c.args.at) (sym (ap answered c.in-End.is) ∙ c.record_at.ensures)

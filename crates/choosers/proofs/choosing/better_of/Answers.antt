@@ -4,10 +4,10 @@ use borrow.Author.Rules.{rules}
 use Rattle.choosers.proofs.choosing.better_of.Goals as goal
 
 pub returns-in-Nothing : goal.returns-in-Nothing
-returns-in-Nothing c = rw c.enum_told-1.given.1
+returns-in-Nothing c = rw c.in-Nothing.is
 
 pub returns-then-old-new : goal.returns-then-old-new
-returns-then-old-new c = rw (c.best-1.given.1, lt-ltb _ _ c.if-old-new.true)
+returns-then-old-new c = rw (c.in-Found.is, lt-ltb _ _ c.if-old-new.true)
 
 pub returns-else-old-new : goal.returns-else-old-new
-returns-else-old-new c = rw (c.best-1.given.1, le-ltb _ _ c.if-old-new.false)
+returns-else-old-new c = rw (c.in-Found.is, le-ltb _ _ c.if-old-new.false)

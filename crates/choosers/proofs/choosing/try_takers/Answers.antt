@@ -16,17 +16,17 @@ use Rattle.choosers.proofs.Scores.{tries_yes, tries_not, tries_none}
 use Rattle.choosers.proofs.choosing.try_takers.Goals as goal
 
 pub returns-then-given-eq0 : goal.returns-then-given-eq0
-returns-then-given-eq0 c = tries_none c.args.table c.requires.0 c.args.lender.0 _ c.args.given c.requires.1.0 c.requires.1.1 c.if-given-eq0.true _ (le_refl _) _
+returns-then-given-eq0 c = tries_none c.args.table c.requires.table_value c.args.lender.0 _ c.args.given c.requires.rows_value c.requires.given_value c.if-given-eq0.true _ (le_refl _) _
 
 pub loop-taker-init : goal.loop-taker-init
 unfolding try_takers
 loop-taker-init c = (search rules, refl)
 
 pub overflow_shr-given : goal.overflow_shr-given
-overflow_shr-given c = omega (arith, fits c.args.table c.requires.0, c.loop-taker-test.true)
+overflow_shr-given c = omega (arith, fits c.args.table c.requires.table_value, c.loop-taker-test.true)
 
 pub marks_left-score-requires : goal.marks_left-score-requires
-marks_left-score-requires c = (ap length c.requires.1.0 ∙ length-each _ _, fits c.args.table c.requires.0)
+marks_left-score-requires c = (ap length c.requires.rows_value ∙ length-each _ _, fits c.args.table c.requires.table_value)
 
 pub loop-taker-preserved : goal.loop-taker-preserved
 unfolding try_takers
@@ -36,8 +36,8 @@ loop-taker-preserved c = let l = c.loop-taker in
       search rules,
       rw add-one
           (⊎_elim
-          (λ w. ap best_said w.3 ∙ w.2.ensures ∙ tries_yes t c.requires.0 c.args.lender.0 _ c.args.given c.requires.1.0 c.requires.1.1 l.taker c.loop-taker-test.true (best_said l.now) w.0.taken _ w.1.ensures)
-          (λ w. ap best_said w.1 ∙ tries_not t c.requires.0 c.args.lender.0 _ c.args.given c.requires.1.0 c.requires.1.1 l.taker c.loop-taker-test.true (best_said l.now) w.0.left)
+          (λ w. ap best_said w.3 ∙ w.2.ensures ∙ tries_yes t c.requires.table_value c.args.lender.0 _ c.args.given c.requires.rows_value c.requires.given_value l.taker c.loop-taker-test.true (best_said l.now) w.0.taken _ w.1.ensures)
+          (λ w. ap best_said w.1 ∙ tries_not t c.requires.table_value c.args.lender.0 _ c.args.given c.requires.rows_value c.requires.given_value l.taker c.loop-taker-test.true (best_said l.now) w.0.left)
           c.if-given-taker-eq1.branch
           ∙ ap (try_pair (counts t) (score_in t) c.args.lender.0 l.taker) before),
     )

@@ -3,13 +3,13 @@ use borrow.Author.Rules.{rules}
 use Rattle.circuits.proofs.judging.judge.Goals as goal
 
 pub returns-in-Reset : goal.returns-in-Reset
-returns-in-Reset c = rw c.sketch-1.given.1 (c.judge_reset.ensures _)
+returns-in-Reset c = rw c.in-Reset.is (c.judge_reset.ensures _)
 
 pub returns-in-Measurement : goal.returns-in-Measurement
-returns-in-Measurement c = rw c.sketch-in-Measurement-1.given.1 c.judge_measurement.ensures
+returns-in-Measurement c = rw c.in-Measurement.is c.judge_measurement.ensures
 
 pub returns-in-One : goal.returns-in-One
-returns-in-One c = rw c.sketch-in-One-1.given.1 (c.judge_gate.ensures _)
+returns-in-One c = rw c.in-One.is (c.judge_gate.ensures _)
 
 pub returns-in-Two : goal.returns-in-Two
-returns-in-Two c = rw c.sketch-in-Two-1.given.1 (c.judge_two.ensures _)
+returns-in-Two c = rw c.in-Two.is (c.judge_two.ensures _)

@@ -9,25 +9,25 @@ use Rattle.circuits.proofs.judging.judge_measurement.Goals as goal
 pub returns-then-bits-bit : goal.returns-then-bits-bit
 unfolding judge_measurement
 returns-then-bits-bit c = c.at_fault.ensures
-    ∙ rw (sym (c.judge_gate.ensures c.args.uses.now) ∙ ap verdict_of c.enum_told-1.given.1, le-leb _ _ c.if-bits-bit.true)
+    ∙ rw (sym (c.judge_gate.ensures c.args.uses.now) ∙ ap verdict_of c.in-Passed.is, le-leb _ _ c.if-bits-bit.true)
 
 pub returns-then-state_at-eq-USED : goal.returns-then-state_at-eq-USED
 unfolding judge_measurement
 returns-then-state_at-eq-USED c = c.at_fault-then-state_at-eq-USED.ensures
     ∙ rw (
-      sym (c.judge_gate.ensures c.args.uses.now) ∙ ap verdict_of c.enum_told-1.given.1,
+      sym (c.judge_gate.ensures c.args.uses.now) ∙ ap verdict_of c.in-Passed.is,
       lt-leb _ _ c.if-bits-bit.false,
       eq-eqb _ _ (sym c.state_at.ensures ∙ c.if-state_at-eq-USED.true),
     )
 
 pub returns-in-Fault : goal.returns-in-Fault
 unfolding judge_measurement
-returns-in-Fault c = rw (sym (c.judge_gate.ensures c.args.uses.now) ∙ ap verdict_of c.f-1.given.1)
+returns-in-Fault c = rw (sym (c.judge_gate.ensures c.args.uses.now) ∙ ap verdict_of c.in-Fault.is)
 
 pub returns-else-state_at-eq-USED : goal.returns-else-state_at-eq-USED
 unfolding judge_measurement
 returns-else-state_at-eq-USED c = rw (
-      sym (c.judge_gate.ensures c.args.uses.now) ∙ ap verdict_of c.enum_told-1.given.1,
+      sym (c.judge_gate.ensures c.args.uses.now) ∙ ap verdict_of c.in-Passed.is,
       lt-leb _ _ c.if-bits-bit.false,
       ne_eqb _ _ (λ e. c.if-state_at-eq-USED.false (c.state_at.ensures ∙ e)),
     )

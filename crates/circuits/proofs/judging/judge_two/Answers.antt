@@ -26,7 +26,7 @@ returns-in-Fault c = λ bs.
       lt-leb _ _ c.if-lines-first.false,
       lt-leb _ _ c.if-lines-second.false,
       ne_eqb _ _ c.if-first-second.false,
-      sym (c.judge_live.ensures bs) ∙ ap verdict_of c.f-1.given.1,
+      sym (c.judge_live.ensures bs) ∙ ap verdict_of c.in-Fault.is,
     )
 
 pub returns-in-Passed : goal.returns-in-Passed
@@ -37,5 +37,5 @@ returns-in-Passed c = λ bs.
       lt-leb _ _ c.if-lines-first.false,
       lt-leb _ _ c.if-lines-second.false,
       ne_eqb _ _ c.if-first-second.false,
-      sym (c.judge_live.ensures bs) ∙ ap verdict_of c.enum_told-1.given.1,
+      sym (c.judge_live.ensures bs) ∙ ap verdict_of c.in-Passed.is,
     )

@@ -5,7 +5,7 @@ use borrow.Author.Rules.{rules}
 use Rattle.circuits.proofs.reading.is_static.Goals as goal
 
 pub returns-in-Body : goal.returns-in-Body
-returns-in-Body c = c.is_static_width.ensures ∙ rw (sym c.shape.ensures ∙ ap outlined c.form-1.given.1)
+returns-in-Body c = c.is_static_width.ensures ∙ rw (sym c.shape.ensures ∙ ap outlined c.in-Body.is)
 
 pub returns-in-Unknown : goal.returns-in-Unknown
-returns-in-Unknown c = rw (sym c.shape.ensures ∙ ap outlined c.enum_told-1.given.1)
+returns-in-Unknown c = rw (sym c.shape.ensures ∙ ap outlined c.in-Unknown.is)

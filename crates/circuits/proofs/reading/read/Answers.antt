@@ -7,8 +7,8 @@ use Rattle.circuits.proofs.reading.read.Goals as goal
 
 pub returns-in-Refused : goal.returns-in-Refused
 unfolding read_circuit
-returns-in-Refused c = rw (sym c.read_header.ensures ∙ ap header_read c.r-1.given.1)
+returns-in-Refused c = rw (sym c.read_header.ensures ∙ ap header_read c.in-Refused.is)
 
 pub returns-in-Width : goal.returns-in-Width
 returns-in-Width c = c.read_steps.ensures
-    ∙ reads_after _ _ (sym c.read_header.ensures ∙ ap header_read c.width-1.given.1)
+    ∙ reads_after _ _ (sym c.read_header.ensures ∙ ap header_read c.in-Width.is)

@@ -7,15 +7,15 @@ use borrow.Author.Rules.{rules}
 use Rattle.circuits.proofs.rewriting.rewrite.Goals as goal
 
 pub returns-then-out-circuit : goal.returns-then-out-circuit
-returns-then-out-circuit c = settled_refused (no_room _ (accepted _ (sym (ap reading_of c.valid-1.given.1) ∙ c.read.ensures)) _ c.if-out-circuit.true)
+returns-then-out-circuit c = settled_refused (no_room _ (accepted _ (sym (ap reading_of c.in-Valid.is) ∙ c.read.ensures)) _ c.if-out-circuit.true)
 
 pub write_steps-requires : goal.write_steps-requires
-write_steps-requires c = let a = accepted _ (sym (ap reading_of c.valid-1.given.1) ∙ c.read.ensures) in
+write_steps-requires c = let a = accepted _ (sym (ap reading_of c.in-Valid.is) ∙ c.read.ensures) in
     (steps_stand _ a, steps_fit _ a c.if-out-circuit.false c.write_record-from.ensures)
 
 pub returns-in-Refused : goal.returns-in-Refused
-returns-in-Refused c = settled_refused (not_read _ _ (turned_away _ (sym (ap reading_of c.r-1.given.1) ∙ c.read.ensures)))
+returns-in-Refused c = settled_refused (not_read _ _ (turned_away _ (sym (ap reading_of c.in-Refused.is) ∙ c.read.ensures)))
 
 pub returns-else-out-circuit : goal.returns-else-out-circuit
-returns-else-out-circuit c = let a = accepted _ (sym (ap reading_of c.valid-1.given.1) ∙ c.read.ensures) in
+returns-else-out-circuit c = let a = accepted _ (sym (ap reading_of c.in-Valid.is) ∙ c.read.ensures) in
     settled_done (has_room _ a _ c.if-out-circuit.false) (wrote_circuit _ a c.if-out-circuit.false c.write_record-from.ensures c.write_steps.ensures)

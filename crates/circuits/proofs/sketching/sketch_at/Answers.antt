@@ -23,20 +23,20 @@ returns-then-s-at-2 c = c.refuse-then-s-at-2.ensures
     ∙ rw (
       lt-leb _ _ c.if-s-at.false,
       ne_eqb _ _ c.if-left-eq0.false,
-      sym c.shape.ensures ∙ ap outlined c.form-1.given.1,
+      sym c.shape.ensures ∙ ap outlined c.in-Body.is,
       sym c.is_instruction.ensures ∙ c.if-is_instruction.true,
       le-leb _ _ c.if-s-at-2.true,
     )
 
 pub sketch_in-requires : goal.sketch_in-requires
-sketch_in-requires c = omega (arith, body_holds _ (sym c.shape.ensures ∙ ap outlined c.form-1.given.1))
+sketch_in-requires c = omega (arith, body_holds _ (sym c.shape.ensures ∙ ap outlined c.in-Body.is))
 
 pub returns-then-is_instruction : goal.returns-then-is_instruction
 unfolding step_at instruction_at record_at
 returns-then-is_instruction c = rw (
       lt-leb _ _ c.if-s-at.false,
       ne_eqb _ _ c.if-left-eq0.false,
-      sym c.shape.ensures ∙ ap outlined c.form-1.given.1,
+      sym c.shape.ensures ∙ ap outlined c.in-Body.is,
       sym c.is_instruction.ensures ∙ c.if-is_instruction.true,
       lt-leb _ _ c.if-s-at-2.false,
     ) c.sketch_in.ensures
@@ -47,7 +47,7 @@ returns-in-Unknown c = c.refuse-in-Unknown.ensures
     ∙ rw (
       lt-leb _ _ c.if-s-at.false,
       ne_eqb _ _ c.if-left-eq0.false,
-      sym c.shape.ensures ∙ ap outlined c.enum_told-1.given.1,
+      sym c.shape.ensures ∙ ap outlined c.in-Unknown.is,
     )
 
 pub returns-else-is_instruction : goal.returns-else-is_instruction
@@ -56,6 +56,6 @@ returns-else-is_instruction c = c.refuse-in-Body.ensures
     ∙ rw (
       lt-leb _ _ c.if-s-at.false,
       ne_eqb _ _ c.if-left-eq0.false,
-      sym c.shape.ensures ∙ ap outlined c.form-1.given.1,
+      sym c.shape.ensures ∙ ap outlined c.in-Body.is,
       sym c.is_instruction.ensures ∙ c.if-is_instruction.false,
     )

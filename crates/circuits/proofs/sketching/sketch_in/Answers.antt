@@ -10,37 +10,37 @@ pub bounds-s-at : goal.bounds-s-at
 bounds-s-at c = omega (arith, some_operand c.args.form)
 
 pub bounds-s-at-in-Measurement : goal.bounds-s-at-in-Measurement
-bounds-s-at-in-Measurement c = omega (arith, ap operands_of c.enum_told-in-Measurement-1.given.1)
+bounds-s-at-in-Measurement c = omega (arith, ap operands_of c.in-Measurement.is)
 
 pub bounds-s-at-in-TwoLineGate : goal.bounds-s-at-in-TwoLineGate
-bounds-s-at-in-TwoLineGate c = omega (arith, ap operands_of c.enum_told-in-TwoLineGate-1.given.1)
+bounds-s-at-in-TwoLineGate c = omega (arith, ap operands_of c.in-TwoLineGate.is)
 
 pub bounds-s-at-in-AngledTwoLineGate : goal.bounds-s-at-in-AngledTwoLineGate
-bounds-s-at-in-AngledTwoLineGate c = omega (arith, ap operands_of c.enum_told-in-AngledTwoLineGate-1.given.1)
+bounds-s-at-in-AngledTwoLineGate c = omega (arith, ap operands_of c.in-AngledTwoLineGate.is)
 
 pub returns-in-StaticWidth : goal.returns-in-StaticWidth
-returns-in-StaticWidth c = c.refuse.ensures ∙ rw c.enum_told-in-StaticWidth-1.given.1
+returns-in-StaticWidth c = c.refuse.ensures ∙ rw c.in-StaticWidth.is
 
 pub returns-in-DynamicWidth : goal.returns-in-DynamicWidth
-returns-in-DynamicWidth c = c.refuse-in-DynamicWidth.ensures ∙ rw c.enum_told-in-DynamicWidth-1.given.1
+returns-in-DynamicWidth c = c.refuse-in-DynamicWidth.ensures ∙ rw c.in-DynamicWidth.is
 
 pub returns-in-Reuse : goal.returns-in-Reuse
-returns-in-Reuse c = c.refuse-in-Reuse.ensures ∙ rw c.enum_told-in-Reuse-1.given.1
+returns-in-Reuse c = c.refuse-in-Reuse.ensures ∙ rw c.in-Reuse.is
 
 pub returns-in-Reset : goal.returns-in-Reset
-returns-in-Reset c = rw c.enum_told-1.given.1
+returns-in-Reset c = rw c.in-Reset.is
 
 pub returns-in-Measurement : goal.returns-in-Measurement
-returns-in-Measurement c = rw c.enum_told-in-Measurement-1.given.1
+returns-in-Measurement c = rw c.in-Measurement.is
 
 pub returns-in-Gate : goal.returns-in-Gate
-returns-in-Gate c = rw c.enum_told-in-Gate-1.given.1
+returns-in-Gate c = rw c.in-Gate.is
 
 pub returns-in-AngledGate : goal.returns-in-AngledGate
-returns-in-AngledGate c = rw c.enum_told-in-AngledGate-1.given.1
+returns-in-AngledGate c = rw c.in-AngledGate.is
 
 pub returns-in-TwoLineGate : goal.returns-in-TwoLineGate
-returns-in-TwoLineGate c = rw c.enum_told-in-TwoLineGate-1.given.1
+returns-in-TwoLineGate c = rw c.in-TwoLineGate.is
 
 pub returns-in-AngledTwoLineGate : goal.returns-in-AngledTwoLineGate
-returns-in-AngledTwoLineGate c = rw c.enum_told-in-AngledTwoLineGate-1.given.1
+returns-in-AngledTwoLineGate c = rw c.in-AngledTwoLineGate.is

@@ -4,15 +4,15 @@ use borrow.Author.Rules.{rules}
 use Rattle.circuits.proofs.taking.take_step.Goals as goal
 
 pub returns-in-End : goal.returns-in-End
-returns-in-End c = told_end _ _ _ _ _ c.sketch_at-seen.ensures c.enum_told-1.given.1
+returns-in-End c = told_end _ _ _ _ _ c.sketch_at-seen.ensures c.in-End.is
 
 pub returns-in-Refused : goal.returns-in-Refused
-returns-in-Refused c = told_refused _ _ _ _ _ c.sketch_at-seen.ensures c.seen-1.given.1
+returns-in-Refused c = told_refused _ _ _ _ _ c.sketch_at-seen.ensures c.in-Refused.is
 
 pub returns-in-Fault : goal.returns-in-Fault
 returns-in-Fault c = rw c.place_of.ensures
-    (told_fault _ _ _ _ _ c.sketch_at-seen.ensures c.seen2.given.1 _ c.judge.ensures c.f-1.given.1)
+    (told_fault _ _ _ _ _ c.sketch_at-seen.ensures c.seen2.given.1 _ c.judge.ensures c.in-Fault.is)
 
 pub returns-in-Passed : goal.returns-in-Passed
 returns-in-Passed c = rw c.advance.ensures
-    (told_passed _ _ _ _ _ c.sketch_at-seen.ensures c.seen2.given.1 _ c.judge.ensures c.enum_told-in-Passed-1.given.1)
+    (told_passed _ _ _ _ _ c.sketch_at-seen.ensures c.seen2.given.1 _ c.judge.ensures c.in-Passed.is)

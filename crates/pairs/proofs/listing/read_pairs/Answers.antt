@@ -15,27 +15,27 @@ pub loop-r-init : goal.loop-r-init
 loop-r-init c = going_start _ _ _ c.none-lenders.ensures
 
 pub returns-in-End : goal.returns-in-End
-returns-in-End c = going_end _ _ _ _ _ _ c.loop-r.invariant (sym c.pair_at.ensures ∙ ap found_pair c.enum_told-1.given.1)
+returns-in-End c = going_end _ _ _ _ _ _ c.loop-r.invariant (sym c.pair_at.ensures ∙ ap found_pair c.in-End.is)
 
 pub returns-in-Refused : goal.returns-in-Refused
-returns-in-Refused c = settled_as (going_refused _ _ _ _ _ _ c.loop-r.invariant (sym c.pair_at.ensures ∙ ap found_pair c.r-1.given.1)) c.refuse.ensures
+returns-in-Refused c = settled_as (going_refused _ _ _ _ _ _ c.loop-r.invariant (sym c.pair_at.ensures ∙ ap found_pair c.in-Refused.is)) c.refuse.ensures
 
 pub take-offered-requires : goal.take-offered-requires
 take-offered-requires c = c.loop-r.invariant.clean
 
 pub returns-in-Refused-reply : goal.returns-in-Refused-reply
 returns-in-Refused-reply c = settled_as
-    (going_untaken _ _ _ _ _ _ c.loop-r.invariant (sym c.pair_at.ensures ∙ ap found_pair c.lender-1.given.1)
-    (sym c.take-offered.ensures ∙ ap (λ r. handing c.take-offered.result.table (replied r)) c.reply-1.given.1))
+    (going_untaken _ _ _ _ _ _ c.loop-r.invariant (sym c.pair_at.ensures ∙ ap found_pair c.in-Pair.is)
+    (sym c.take-offered.ensures ∙ ap (λ r. handing c.take-offered.result.table (replied r)) c.in-Refused-reply.is))
     c.refuse-in-Refused-reply.ensures
 
 pub overflow_add-index : goal.overflow_add-index
-overflow_add-index c = omega (arith, c.loop-r.invariant.onward, c.loop-r.invariant.inside, (pair_back _ _ _ (sym c.pair_at.ensures ∙ ap found_pair c.lender-1.given.1)).past)
+overflow_add-index c = omega (arith, c.loop-r.invariant.onward, c.loop-r.invariant.inside, (pair_back _ _ _ (sym c.pair_at.ensures ∙ ap found_pair c.in-Pair.is)).past)
 
 pub loop-r-smaller : goal.loop-r-smaller
-loop-r-smaller c = omega (arith, c.loop-r.invariant.inside, (pair_back _ _ _ (sym c.pair_at.ensures ∙ ap found_pair c.lender-1.given.1)).past, (pair_back _ _ _ (sym c.pair_at.ensures ∙ ap found_pair c.lender-1.given.1)).within)
+loop-r-smaller c = omega (arith, c.loop-r.invariant.inside, (pair_back _ _ _ (sym c.pair_at.ensures ∙ ap found_pair c.in-Pair.is)).past, (pair_back _ _ _ (sym c.pair_at.ensures ∙ ap found_pair c.in-Pair.is)).within)
 
 pub loop-r-preserved : goal.loop-r-preserved
-loop-r-preserved c = going_on _ _ _ _ _ _ c.loop-r.invariant (sym c.pair_at.ensures ∙ ap found_pair c.lender-1.given.1)
-    (sym c.take-offered.ensures ∙ ap (λ r. handing c.take-offered.result.table (replied r)) c.enum_told-in-Taken-1.given.1)
+loop-r-preserved c = going_on _ _ _ _ _ _ c.loop-r.invariant (sym c.pair_at.ensures ∙ ap found_pair c.in-Pair.is)
+    (sym c.take-offered.ensures ∙ ap (λ r. handing c.take-offered.result.table (replied r)) c.in-Taken.is)
     c.with_pair-lenders.ensures

@@ -11,17 +11,17 @@ returns-then-s-at c = sym (at_end _ _ c.if-s-at.true)
 pub returns-then-s-at-2 : goal.returns-then-s-at-2
 returns-then-s-at-2 c = sym
     (at_cut _ _ c.if-s-at.false
-    (sym c.shape.ensures ∙ ap outlined c.form-1.given.1)
+    (sym c.shape.ensures ∙ ap outlined c.in-Body.is)
     c.if-s-at-2.true)
 
 pub returns-in-Unknown : goal.returns-in-Unknown
 returns-in-Unknown c = sym
     (at_unknown _ _ c.if-s-at.false
-    (sym c.shape.ensures ∙ ap outlined c.enum_told-1.given.1))
+    (sym c.shape.ensures ∙ ap outlined c.in-Unknown.is))
 
 pub returns-else-s-at-2 : goal.returns-else-s-at-2
 returns-else-s-at-2 c = rw c.decode-item.ensures
     (sym
     (at_record _ _ c.if-s-at.false
-    (sym c.shape.ensures ∙ ap outlined c.form-1.given.1)
+    (sym c.shape.ensures ∙ ap outlined c.in-Body.is)
     c.if-s-at-2.false))

@@ -8,12 +8,12 @@ use Rattle.table.proofs.Offers.{taken_inside}
 use Rattle.table.proofs.clean_offers.offer_clean.Goals as goal
 
 pub accept_clean-after-requires : goal.accept_clean-after-requires
-accept_clean-after-requires c = taken_inside _ _ _ (sym c.judge-reply.ensures ∙ ap replied c.enum_told-1.given.1)
+accept_clean-after-requires c = taken_inside _ _ _ (sym c.judge-reply.ensures ∙ ap replied c.in-Taken.is)
 
 pub returns-in-Taken : goal.returns-in-Taken
 returns-in-Taken c = let a = c.args in
     let after = accepted_clean a.table a.lender.0 a.taker.0 in
-    let reply = sym (ap replied c.enum_told-1.given.1) ∙ c.judge-reply.ensures in (
+    let reply = sym (ap replied c.in-Taken.is) ∙ c.judge-reply.ensures in (
       ap done c.accept_clean-after.ensures ∙ ap (handing after) reply,
       c.accept_clean-after.ensures ∙ ap (λ (o : Outcome (Unit {0})). beside a.table (handing after o)) reply,
     )
@@ -21,7 +21,7 @@ returns-in-Taken c = let a = c.args in
 pub returns-in-Refused : goal.returns-in-Refused
 returns-in-Refused c = let a = c.args in
     let after = accepted_clean a.table a.lender.0 a.taker.0 in
-    let reply = sym (ap replied c.reply-1.given.1) ∙ c.judge-reply.ensures in (
+    let reply = sym (ap replied c.in-Refused.is) ∙ c.judge-reply.ensures in (
       ap (handing after) reply,
       ap (λ (o : Outcome (Unit {0})). beside a.table (handing after o)) reply,
     )

@@ -11,9 +11,9 @@ pub returns-in-Taken : goal.returns-in-Taken
 returns-in-Taken c = let a = c.args in
     ap done (c.marks_of.ensures ∙ ap marks_of c.accept.ensures)
     ∙ ap (handing (marks_of (accepted a.table a.lender.0 a.taker.0)))
-    (sym (ap replied c.enum_told-1.given.1) ∙ c.judge-reply.ensures)
+    (sym (ap replied c.in-Taken.is) ∙ c.judge-reply.ensures)
 
 pub returns-in-Refused : goal.returns-in-Refused
 returns-in-Refused c = let a = c.args in
     ap (handing (marks_of (accepted a.table a.lender.0 a.taker.0)))
-    (sym (ap replied c.reply-1.given.1) ∙ c.judge-reply.ensures)
+    (sym (ap replied c.in-Refused.is) ∙ c.judge-reply.ensures)

@@ -9,7 +9,7 @@ use Rattle.table.proofs.offering.offer.Goals as goal
 pub returns-in-Taken : goal.returns-in-Taken
 returns-in-Taken c = let a = c.args in
     let after = accepted a.table a.lender.0 a.taker.0 in
-    let reply = sym (ap replied c.enum_told-1.given.1) ∙ c.judge-reply.ensures in (
+    let reply = sym (ap replied c.in-Taken.is) ∙ c.judge-reply.ensures in (
       ap done c.accept-after.ensures ∙ ap (handing after) reply,
       c.accept-after.ensures ∙ ap (λ (o : Outcome (Unit {0})). beside a.table (handing after o)) reply,
     )
@@ -17,7 +17,7 @@ returns-in-Taken c = let a = c.args in
 pub returns-in-Refused : goal.returns-in-Refused
 returns-in-Refused c = let a = c.args in
     let after = accepted a.table a.lender.0 a.taker.0 in
-    let reply = sym (ap replied c.reply-1.given.1) ∙ c.judge-reply.ensures in (
+    let reply = sym (ap replied c.in-Refused.is) ∙ c.judge-reply.ensures in (
       ap (handing after) reply,
       ap (λ (o : Outcome (Unit {0})). beside a.table (handing after o)) reply,
     )

@@ -21,20 +21,20 @@ pub loop-rows-init : goal.loop-rows-init
 loop-rows-init c = (steps_of (read_circuit c.args.circuit.now), c.requires, holdable_none, refl)
 
 pub returns-in-End : goal.returns-in-End
-returns-in-End c = sym (pass_over _ (steps_end _ _ _ c.loop-rows.invariant.1 (drawn_end _ (sym c.sketch_at.ensures ∙ ap glimpsed c.enum_told-1.given.1)))) ∙ c.loop-rows.invariant.3
+returns-in-End c = sym (pass_over _ (steps_end _ _ _ c.loop-rows.invariant.1 (drawn_end _ (sym c.sketch_at.ensures ∙ ap glimpsed c.in-End.is)))) ∙ c.loop-rows.invariant.3
 
 pub returns-in-Refused : goal.returns-in-Refused
-returns-in-Refused c = absurd (steps_faultless _ _ _ c.loop-rows.invariant.1 (drawn_refused _ (sym c.sketch_at.ensures ∙ ap glimpsed c.enum_told-in-Refused-1.given.1)))
+returns-in-Refused c = absurd (steps_faultless _ _ _ c.loop-rows.invariant.1 (drawn_refused _ (sym c.sketch_at.ensures ∙ ap glimpsed c.in-Refused.is)))
 
 pub overflow_sub-left : goal.overflow_sub-left
-overflow_sub-left c = some_left _ _ _ (drawn _ (sym c.sketch_at.ensures ∙ ap glimpsed c.sketch-1.given.1)).stands
+overflow_sub-left c = some_left _ _ _ (drawn _ (sym c.sketch_at.ensures ∙ ap glimpsed c.in-Step.is)).stands
 
 pub loop-rows-smaller : goal.loop-rows-smaller
-loop-rows-smaller c = omega (arith, some_left _ _ _ (drawn _ (sym c.sketch_at.ensures ∙ ap glimpsed c.sketch-1.given.1)).stands)
+loop-rows-smaller c = omega (arith, some_left _ _ _ (drawn _ (sym c.sketch_at.ensures ∙ ap glimpsed c.in-Step.is)).stands)
 
 pub loop-rows-preserved : goal.loop-rows-preserved
 loop-rows-preserved c = let i = c.loop-rows.invariant in
-    let d = drawn _ (sym c.sketch_at.ensures ∙ ap glimpsed c.sketch-1.given.1) in
+    let d = drawn _ (sym c.sketch_at.ensures ∙ ap glimpsed c.in-Step.is) in
     let o = steps_next _ _ _ i.1 d.stands in
     let on = c.join_sets.ensures ∙ ap (λ k. rows_sketched k c.loop-rows.rows) (sym d.like) ∙ sketched_rows _ i.2.many i.2.fits d.instruction in
     (o.rest, o.steps, subst Holdable (sym on) (holdable_after d.instruction c.loop-rows.rows), pass_on d.instruction _ o.first on ∙ i.3)

@@ -10,14 +10,14 @@ use borrow.Author.Rules.{rules}
 use Rattle.table.proofs.starting.start.Goals as goal
 
 pub all_sets-requires : goal.all_sets-requires
-all_sets-requires c = steps_stand _ (accepted _ (sym (ap reading_of c.valid-1.given.1) ∙ c.read.ensures))
+all_sets-requires c = steps_stand _ (accepted _ (sym (ap reading_of c.in-Valid.is) ∙ c.read.ensures))
 
 pub returns-in-Refused : goal.returns-in-Refused
-returns-in-Refused c = let known = sym (ap reading_of c.r-1.given.1) ∙ c.read.ensures in
+returns-in-Refused c = let known = sym (ap reading_of c.in-Refused.is) ∙ c.read.ensures in
     let e = ap table_at_start (turned_away _ known) in
     (sym e, c.empty.ensures ∙ ap (beside empty_table) (sym e))
 
 pub returns-in-Valid : goal.returns-in-Valid
-returns-in-Valid c = let known = sym (ap reading_of c.valid-1.given.1) ∙ c.read.ensures in
+returns-in-Valid c = let known = sym (ap reading_of c.in-Valid.is) ∙ c.read.ensures in
     let e = start_told _ (accepted _ known) c.all_sets.ensures c.table_from-table.ensures in
     (sym e, ap (beside empty_table) (sym e))

@@ -3,19 +3,19 @@ use borrow.Author.Rules.{rules}
 use Rattle.texts.proofs.lines.instruction_parts.Goals as goal
 
 pub returns-in-Reset : goal.returns-in-Reset
-returns-in-Reset c = rw c.enum_told-1.given.1
+returns-in-Reset c = rw c.in-Reset.is
 
 pub returns-in-Measurement : goal.returns-in-Measurement
-returns-in-Measurement c = rw c.enum_told-in-Measurement-1.given.1
+returns-in-Measurement c = rw c.in-Measurement.is
 
 pub returns-in-Gate : goal.returns-in-Gate
-returns-in-Gate c = rw c.enum_told-in-Gate-1.given.1
+returns-in-Gate c = rw c.in-Gate.is
 
 pub returns-in-AngledGate : goal.returns-in-AngledGate
-returns-in-AngledGate c = rw c.enum_told-in-AngledGate-1.given.1
+returns-in-AngledGate c = rw c.in-AngledGate.is
 
 pub returns-in-TwoLineGate : goal.returns-in-TwoLineGate
-returns-in-TwoLineGate c = rw c.enum_told-in-TwoLineGate-1.given.1
+returns-in-TwoLineGate c = rw c.in-TwoLineGate.is
 
 pub returns-in-AngledTwoLineGate : goal.returns-in-AngledTwoLineGate
-returns-in-AngledTwoLineGate c = rw c.enum_told-in-AngledTwoLineGate-1.given.1
+returns-in-AngledTwoLineGate c = rw c.in-AngledTwoLineGate.is

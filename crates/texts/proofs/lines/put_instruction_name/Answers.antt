@@ -21,19 +21,19 @@ slice-aggregate-put-bytes-5 c = search rules
 slice-aggregate-put-bytes-6 c = search rules
 
 pub returns-in-Reset : goal.returns-in-Reset
-returns-in-Reset c = rw c.enum_told-1.given.1 c.put_bytes.ensures
+returns-in-Reset c = rw c.in-Reset.is c.put_bytes.ensures
 
 pub returns-in-Measurement : goal.returns-in-Measurement
-returns-in-Measurement c = rw c.enum_told-in-Measurement-1.given.1 c.put_bytes-in-Measurement.ensures
+returns-in-Measurement c = rw c.in-Measurement.is c.put_bytes-in-Measurement.ensures
 
 pub returns-in-Gate : goal.returns-in-Gate
-returns-in-Gate c = rw c.enum_told-in-Gate-1.given.1 c.put_bytes-in-Gate.ensures
+returns-in-Gate c = rw c.in-Gate.is c.put_bytes-in-Gate.ensures
 
 pub returns-in-AngledGate : goal.returns-in-AngledGate
-returns-in-AngledGate c = rw c.enum_told-in-AngledGate-1.given.1 c.put_bytes-in-AngledGate.ensures
+returns-in-AngledGate c = rw c.in-AngledGate.is c.put_bytes-in-AngledGate.ensures
 
 pub returns-in-TwoLineGate : goal.returns-in-TwoLineGate
-returns-in-TwoLineGate c = rw c.enum_told-in-TwoLineGate-1.given.1 c.put_bytes-in-TwoLineGate.ensures
+returns-in-TwoLineGate c = rw c.in-TwoLineGate.is c.put_bytes-in-TwoLineGate.ensures
 
 pub returns-in-AngledTwoLineGate : goal.returns-in-AngledTwoLineGate
-returns-in-AngledTwoLineGate c = rw c.enum_told-in-AngledTwoLineGate-1.given.1 c.put_bytes-in-AngledTwoLineGate.ensures
+returns-in-AngledTwoLineGate c = rw c.in-AngledTwoLineGate.is c.put_bytes-in-AngledTwoLineGate.ensures

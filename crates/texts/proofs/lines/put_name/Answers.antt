@@ -12,13 +12,13 @@ slice-aggregate-put-bytes-2 c = search rules
 slice-aggregate-put-bytes-3 c = search rules
 
 pub returns-in-StaticWidth : goal.returns-in-StaticWidth
-returns-in-StaticWidth c = rw c.enum_told-1.given.1 c.put_bytes.ensures
+returns-in-StaticWidth c = rw c.in-StaticWidth.is c.put_bytes.ensures
 
 pub returns-in-DynamicWidth : goal.returns-in-DynamicWidth
-returns-in-DynamicWidth c = rw c.enum_told-in-DynamicWidth-1.given.1 c.put_bytes-in-DynamicWidth.ensures
+returns-in-DynamicWidth c = rw c.in-DynamicWidth.is c.put_bytes-in-DynamicWidth.ensures
 
 pub returns-in-Step : goal.returns-in-Step
-returns-in-Step c = rw c.r-1.given.1 c.put_instruction_name.ensures
+returns-in-Step c = rw c.in-Step.is c.put_instruction_name.ensures
 
 pub returns-in-Reuse : goal.returns-in-Reuse
-returns-in-Reuse c = rw c.enum_told-in-Reuse-1.given.1 c.put_bytes-in-Reuse.ensures
+returns-in-Reuse c = rw c.in-Reuse.is c.put_bytes-in-Reuse.ensures

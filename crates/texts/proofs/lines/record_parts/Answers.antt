@@ -3,10 +3,10 @@ use borrow.Author.Rules.{rules}
 use Rattle.texts.proofs.lines.record_parts.Goals as goal
 
 pub returns-in-StaticWidth : goal.returns-in-StaticWidth
-returns-in-StaticWidth c = rw c.enum_told-1.given.1
+returns-in-StaticWidth c = rw c.in-StaticWidth.is
 
 pub returns-in-DynamicWidth : goal.returns-in-DynamicWidth
-returns-in-DynamicWidth c = rw c.enum_told-in-DynamicWidth-1.given.1
+returns-in-DynamicWidth c = rw c.in-DynamicWidth.is
 
 pub returns-in-Reuse : goal.returns-in-Reuse
-returns-in-Reuse c = rw c.enum_told-in-Reuse-1.given.1
+returns-in-Reuse c = rw c.in-Reuse.is

@@ -8,10 +8,10 @@ use borrow.Author.Rules.{rules}
 use Rattle.thaksipho.proofs.compiling.thaksipho_compile.Goals as goal
 
 pub returns-in-Done : goal.returns-in-Done
-returns-in-Done c = worded (compiled_settled c.compile.ensures) (sym (ap (λ r. word (bytes_told (compiling_of r))) c.counts-1.given.1))
+returns-in-Done c = worded (compiled_settled c.compile.ensures) (sym (ap (λ r. word (bytes_told (compiling_of r))) c.in-Done.is))
 
 pub returns-in-Refused : goal.returns-in-Refused
 returns-in-Refused c = let settled = compiled_settled c.compile.ensures in
-    let e = sym (ap (λ r. bytes_told (compiling_of r)) c.r-1.given.1) ∙ settled.tells in
+    let e = sym (ap (λ r. bytes_told (compiling_of r)) c.in-Refused.is) ∙ settled.tells in
     worded settled
-    (c.refusal_word.ensures ∙ kept _ _ (told_fits e (compile_fits _ _ _)).1 ∙ sym (ap (λ r. word (bytes_told (compiling_of r))) c.r-1.given.1))
+    (c.refusal_word.ensures ∙ kept _ _ (told_fits e (compile_fits _ _ _)).1 ∙ sym (ap (λ r. word (bytes_told (compiling_of r))) c.in-Refused.is))

@@ -8,4 +8,4 @@ use borrow.Author.Rules.{rules}
 use Rattle.thaksipho.proofs.tables.count_word.Goals as goal
 
 pub returns-in-Refused : goal.returns-in-Refused
-returns-in-Refused c = c.refusal_word.ensures ∙ kept _ _ (subst (λ r. Small (tallied r)) c.counted-in-Refused-1.given.1 c.requires) ∙ sym (ap (λ r. word (tallied r)) c.counted-in-Refused-1.given.1)
+returns-in-Refused c = c.refusal_word.ensures ∙ kept _ _ (subst (λ r. Small (tallied r)) c.in-Refused.is c.requires) ∙ sym (ap (λ r. word (tallied r)) c.in-Refused.is)

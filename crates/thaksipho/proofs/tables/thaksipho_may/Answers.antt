@@ -12,13 +12,13 @@ use Rattle.thaksipho.proofs.tables.thaksipho_may.Goals as goal
 
 pub returns-in-Yes : goal.returns-in-Yes
 returns-in-Yes c = ap (λ (o : Outcome Bool). word (flag o))
-    (sym (ap permitted c.enum_told-1.given.1) ∙ c.may.ensures ∙ ap (λ (t : Table). may_lend t c.args.lender c.args.taker) c.table_of.ensures)
+    (sym (ap permitted c.in-Yes.is) ∙ c.may.ensures ∙ ap (λ (t : Table). may_lend t c.args.lender c.args.taker) c.table_of.ensures)
 
 pub returns-in-No : goal.returns-in-No
 returns-in-No c = ap (λ (o : Outcome Bool). word (flag o))
-    (sym (ap permitted c.enum_told-in-No-1.given.1) ∙ c.may.ensures ∙ ap (λ (t : Table). may_lend t c.args.lender c.args.taker) c.table_of.ensures)
+    (sym (ap permitted c.in-No.is) ∙ c.may.ensures ∙ ap (λ (t : Table). may_lend t c.args.lender c.args.taker) c.table_of.ensures)
 
 pub returns-in-Refused : goal.returns-in-Refused
 returns-in-Refused c = refusal_tells c.refusal_word.ensures
-    (ap flag (sym (ap permitted c.r-1.given.1) ∙ c.may.ensures ∙ ap (λ (t : Table). may_lend t c.args.lender c.args.taker) c.table_of.ensures))
+    (ap flag (sym (ap permitted c.in-Refused.is) ∙ c.may.ensures ∙ ap (λ (t : Table). may_lend t c.args.lender c.args.taker) c.table_of.ensures))
     (may_fits _ c.args.lender c.args.taker)

@@ -11,7 +11,7 @@ use Rattle.thaksipho.proofs.tables.thaksipho_offer.Goals as goal
 pub returns-in-Taken : goal.returns-in-Taken
 returns-in-Taken c = let a = c.args in
     reworded _
-    (sym (ap (λ r. handing c.offer-result.result.table (replied r)) c.enum_told-1.given.1) ∙ c.offer-result.ensures.0
+    (sym (ap (λ r. handing c.offer-result.result.table (replied r)) c.in-Taken.is) ∙ c.offer-result.ensures.0
     ∙ ap (λ (t : Table). offered t a.lender a.taker) c.table_of.ensures)
     c.hand_back.ensures
 
@@ -19,5 +19,5 @@ pub returns-in-Refused : goal.returns-in-Refused
 returns-in-Refused c = let a = c.args in
     let e =
     sym (c.offer-result.ensures.0 ∙ ap (λ (t : Table). offered t a.lender a.taker) c.table_of.ensures)
-    ∙ ap (λ r. handing c.offer-result.result.table (replied r)) c.reply-1.given.1 in
+    ∙ ap (λ r. handing c.offer-result.result.table (replied r)) c.in-Refused.is in
     refusal_worded c.refusal_word.ensures (refused_written _ e) (sound_place e (offered_sound _ a.lender a.taker))

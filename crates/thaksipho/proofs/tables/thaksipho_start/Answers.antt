@@ -8,8 +8,8 @@ use borrow.Author.Rules.{rules}
 use Rattle.thaksipho.proofs.tables.thaksipho_start.Goals as goal
 
 pub returns-in-Done : goal.returns-in-Done
-returns-in-Done c = reworded _ (sym (ap (λ a. handing c.start-result.result.table (replied_at_start a)) c.enum_told-1.given.1) ∙ c.start-result.ensures.0) c.hand_back.ensures
+returns-in-Done c = reworded _ (sym (ap (λ a. handing c.start-result.result.table (replied_at_start a)) c.in-Done.is) ∙ c.start-result.ensures.0) c.hand_back.ensures
 
 pub returns-in-Refused : goal.returns-in-Refused
-returns-in-Refused c = let e = sym c.start-result.ensures.0 ∙ ap (λ a. handing c.start-result.result.table (replied_at_start a)) c.answer-1.given.1 in
+returns-in-Refused c = let e = sym c.start-result.ensures.0 ∙ ap (λ a. handing c.start-result.result.table (replied_at_start a)) c.in-Refused.is in
     refusal_worded c.refusal_word.ensures (refused_written _ e) (sound_place e (started_sound _))

@@ -7,10 +7,10 @@ use borrow.Author.Rules.{rules}
 use Rattle.writer.proofs.choosing.try_head.Goals as goal
 
 pub may_write-requires : goal.may_write-requires
-may_write-requires c = ((c.requires.0.sized_lenders, c.requires.0.narrow), c.requires.0.low _ c.if-index-valid.true)
+may_write-requires c = ((c.requires.fit.sized_lenders, c.requires.fit.narrow), c.requires.fit.low _ c.if-index-valid.true)
 
 pub set_heads-requires : goal.set_heads-requires
-set_heads-requires c = c.requires.0.low _ c.if-index-valid.true
+set_heads-requires c = c.requires.fit.low _ c.if-index-valid.true
 
 pub returns-then-may_write : goal.returns-then-may_write
 unfolding tried candidate

@@ -6,7 +6,7 @@ use borrow.Author.Rules.{rules}
 use Rattle.writer.proofs.choosing.try_moved.Goals as goal
 
 pub try_takers-requires : goal.try_takers-requires
-try_takers-requires c = fit_tried _ _ _ _ _ _ _ c.try_head.ensures c.requires.0
+try_takers-requires c = fit_tried _ _ _ _ _ _ _ c.try_head.ensures c.requires.fit
 
 pub returns-then-valid-of_wire : goal.returns-then-valid-of_wire
 unfolding tried_moved

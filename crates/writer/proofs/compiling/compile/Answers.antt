@@ -15,17 +15,17 @@ pub note_all-requires : goal.note_all-requires
 note_all-requires c = let size = length-replicate {A = ℕ} most_instructions 0 in (record { sized_forms = size; sized_firsts = size; sized_seconds = size; sized_places = length-replicate (most_instructions + 1) header_length; header = refl }, refl)
 
 pub write_in_room-requires : goal.write_in_room-requires
-write_in_room-requires c = let known = sym (ap reading_of c.valid-1.given.1) ∙ c.note_all.ensures.0 in
+write_in_room-requires c = let known = sym (ap reading_of c.in-Valid.is) ∙ c.note_all.ensures.result_value in
     let a = accepted _ known in
-    (known, (c.note_all.ensures.1.0, told_length _ c.args.list.now a (table_is _ c.args.list.now a c.note_all.ensures.1.1 c.table_from.ensures) (settled_told _ _ c.read_pairs-paired.ensures) c.answer-in-Accepted-1.given.1))
+    (known, (c.note_all.ensures.notes, told_length _ c.args.list.now a (table_is _ c.args.list.now a c.note_all.ensures.rows_after c.table_from.ensures) (settled_told _ _ c.read_pairs-paired.ensures) c.in-Accepted.is))
 
 pub returns-in-Refused : goal.returns-in-Refused
-returns-in-Refused c = compiled_refused (circuit_refused _ _ _ (turned_away _ (sym (ap reading_of c.r-1.given.1) ∙ c.note_all.ensures.0)))
+returns-in-Refused c = compiled_refused (circuit_refused _ _ _ (turned_away _ (sym (ap reading_of c.in-Refused.is) ∙ c.note_all.ensures.result_value)))
 
 pub returns-in-Refused-answer : goal.returns-in-Refused-answer
-returns-in-Refused-answer c = let a = accepted _ (sym (ap reading_of c.valid-1.given.1) ∙ c.note_all.ensures.0) in
-    compiled_refused (told_refused _ _ a (table_is _ c.args.list.now a c.note_all.ensures.1.1 c.table_from.ensures) (settled_told _ _ c.read_pairs-paired.ensures) c.answer-1.given.1 _)
+returns-in-Refused-answer c = let a = accepted _ (sym (ap reading_of c.in-Valid.is) ∙ c.note_all.ensures.result_value) in
+    compiled_refused (told_refused _ _ a (table_is _ c.args.list.now a c.note_all.ensures.rows_after c.table_from.ensures) (settled_told _ _ c.read_pairs-paired.ensures) c.in-Refused-answer.is _)
 
 pub returns-in-Accepted : goal.returns-in-Accepted
-returns-in-Accepted c = let a = accepted _ (sym (ap reading_of c.valid-1.given.1) ∙ c.note_all.ensures.0) in
-    compiled_to (told_accepted _ _ a (table_is _ c.args.list.now a c.note_all.ensures.1.1 c.table_from.ensures) (settled_told _ _ c.read_pairs-paired.ensures) c.answer-in-Accepted-1.given.1 _) c.write_in_room.ensures
+returns-in-Accepted c = let a = accepted _ (sym (ap reading_of c.in-Valid.is) ∙ c.note_all.ensures.result_value) in
+    compiled_to (told_accepted _ _ a (table_is _ c.args.list.now a c.note_all.ensures.rows_after c.table_from.ensures) (settled_told _ _ c.read_pairs-paired.ensures) c.in-Accepted.is _) c.write_in_room.ensures

@@ -5,10 +5,10 @@ use borrow.Author.Rules.{rules}
 use Rattle.writer.proofs.compiling.write_in_room.Goals as goal
 
 pub returns-then-out-circuit : goal.returns-then-out-circuit
-returns-then-out-circuit c = room_short _ c.args.circuit.now _ c.requires.1.1 c.if-out-circuit.true
+returns-then-out-circuit c = room_short _ c.args.circuit.now _ c.requires.circuit_len c.if-out-circuit.true
 
 pub write_dynamic-bytes-requires : goal.write_dynamic-bytes-requires
-write_dynamic-bytes-requires c = (c.requires.0, (c.requires.1.0, omega (arith, c.requires.1.1, c.if-out-circuit.false)))
+write_dynamic-bytes-requires c = (c.requires.valid_value, (c.requires.notes, omega (arith, c.requires.circuit_len, c.if-out-circuit.false)))
 
 pub returns : goal.returns
-returns c = room_enough c.args.out.now c.args.circuit.now _ c.requires.1.1 c.if-out-circuit.false c.write_dynamic-bytes.ensures c.qubits_for-qubits.ensures
+returns c = room_enough c.args.out.now c.args.circuit.now _ c.requires.circuit_len c.if-out-circuit.false c.write_dynamic-bytes.ensures c.qubits_for-qubits.ensures

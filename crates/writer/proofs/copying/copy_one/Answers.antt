@@ -8,10 +8,10 @@ use borrow.Author.Rules.{rules}
 use Rattle.writer.proofs.copying.copy_one.Goals as goal
 
 pub bounds-out-to-2 : goal.bounds-out-to-2
-bounds-out-to-2 c = simp length-set (omega (arith, c.requires.0.0, c.requires.1))
+bounds-out-to-2 c = simp length-set (omega (arith, c.requires.from_bound.0, c.requires.from_in_bounds))
 
 pub shape_of-out : goal.shape_of-out
 shape_of-out c = placed_length c.put_bytes.ensures ∙ simp length-set
 
 pub returns : goal.returns
-returns c = copied_one c.args.out.now c.args.circuit.now _ _ _ c.requires.1 c.requires.0.1 _ c.requires.0.0 c.put_bytes.ensures
+returns c = copied_one c.args.out.now c.args.circuit.now _ _ _ c.requires.from_in_bounds c.requires.from_bound.1 _ c.requires.from_bound.0 c.put_bytes.ensures

@@ -5,9 +5,9 @@ use borrow.Author.Rules.{rules}
 use Rattle.writer.proofs.dynamic.write_dynamic.Goals as goal
 
 pub write_steps-requires : goal.write_steps-requires
-write_steps-requires c = let a = accepted _ c.requires.0 in
-    (c.requires.0, (c.requires.1.0, steps_fit _ _ a _ c.qubits_for-qubits.ensures c.write_record-at.ensures c.requires.1.1))
+write_steps-requires c = let a = accepted _ c.requires.valid_value in
+    (c.requires.valid_value, (c.requires.notes, steps_fit _ _ a _ c.qubits_for-qubits.ensures c.write_record-at.ensures c.requires.circuit_in_bounds))
 
 pub returns : goal.returns
-returns c = let a = accepted _ c.requires.0 in
-    wrote_output _ _ a _ c.qubits_for-qubits.ensures c.write_record-at.ensures c.requires.1.1 c.write_steps.ensures
+returns c = let a = accepted _ c.requires.valid_value in
+    wrote_output _ _ a _ c.qubits_for-qubits.ensures c.write_record-at.ensures c.requires.circuit_in_bounds c.write_steps.ensures

@@ -20,14 +20,14 @@ use borrow.Author.Rules.{rules}
 use Rattle.writer.proofs.dynamic.write_in_order.Goals as goal
 
 pub overflow_cast-candidates : goal.overflow_cast-candidates
-overflow_cast-candidates c = omega (arith, few_instructions _ _ (accepted _ c.requires.0))
+overflow_cast-candidates c = omega (arith, few_instructions _ _ (accepted _ c.requires.valid_value))
 
 pub try_all-requires : goal.try_all-requires
-try_all-requires c = fitting _ _ (accepted _ c.requires.0) c.args.lenders.lenders c.requires.1.0 (array_length w8 most_wires c.args.lenders.lenders _ c.well_formed.1.1.0.1.1.0) c.requires.1.1.0 (length-replicate most_wires c.args.valid.instructions)
+try_all-requires c = fitting _ _ (accepted _ c.requires.valid_value) c.args.lenders.lenders c.requires.notes (array_length w8 most_wires c.args.lenders.lenders _ c.well_formed.1.1.0.1.1.0) c.requires.heads_len (length-replicate most_wires c.args.valid.instructions)
 
 pub loop-left-init : goal.loop-left-init
-loop-left-init c = let a = accepted _ c.requires.0 in
-    (a, c.requires.1.0, array_length w8 most_wires c.args.lenders.lenders _ c.well_formed.1.1.0.1.1.0, going_start _ _ a c.args.lenders.lenders c.requires.1.0 (ap (λ o. steps_bytes (dynamic_in c.args.lenders.lenders o)) a.is) c.requires.1.1.1.1 c.requires.1.1.0 c.requires.1.1.1.0 c.try_all.ensures)
+loop-left-init c = let a = accepted _ c.requires.valid_value in
+    (a, c.requires.notes, array_length w8 most_wires c.args.lenders.lenders _ c.well_formed.1.1.0.1.1.0, going_start _ _ a c.args.lenders.lenders c.requires.notes (ap (λ o. steps_bytes (dynamic_in c.args.lenders.lenders o)) a.is) c.requires.circuit_in_bounds c.requires.heads_len c.requires.linked c.try_all.ensures)
 
 pub least-index-requires : goal.least-index-requires
 least-index-requires c = c.loop-left.invariant.3.sized-candidates
@@ -88,8 +88,8 @@ loop-left-preserved c = let i = c.loop-left.invariant in
       i.0,
       i.1,
       i.2,
-      going_on _ _ _ _ i.1 i.3 c.least-index.ensures (omega (arith, c.if-valid-index.false)) c.requires.1.1.1.0 c.move_on.ensures.0
-          c.by_chain-renaming.result.qubits c.loop-left-test.true c.by_chain-renaming.ensures c.move_on.ensures.1
+      going_on _ _ _ _ i.1 i.3 c.least-index.ensures (omega (arith, c.if-valid-index.false)) c.requires.linked c.move_on.ensures.indices_after
+          c.by_chain-renaming.result.qubits c.loop-left-test.true c.by_chain-renaming.ensures c.move_on.ensures.candidates_after
           one two c.copy_renamed-to.ensures,
     )
 

@@ -11,12 +11,12 @@ use borrow.Author.Rules.{rules}
 use Rattle.writer.proofs.dynamic.write_steps.Goals as goal
 
 pub overflow_cast-instructions : goal.overflow_cast-instructions
-overflow_cast-instructions c = omega (arith, few_instructions _ _ (accepted _ c.requires.0))
+overflow_cast-instructions c = omega (arith, few_instructions _ _ (accepted _ c.requires.valid_value))
 
 pub link-requires : goal.link-requires
-link-requires c = let a = accepted _ c.requires.0 in
+link-requires c = let a = accepted _ c.requires.valid_value in
     let size = length-replicate {A = ℕ} most_instructions c.args.valid.instructions in
-    ((few_instructions _ _ a, notes_low _ _ a c.args.lenders.lenders c.requires.1.0), (refl, (size, size)))
+    ((few_instructions _ _ a, notes_low _ _ a c.args.lenders.lenders c.requires.notes), (refl, (size, size)))
 
 pub write_in_order-requires : goal.write_in_order-requires
-write_in_order-requires c = (c.requires.0, (c.requires.1.0, (c.link.ensures.0, (c.link.ensures.1, c.requires.1.1))))
+write_in_order-requires c = (c.requires.valid_value, (c.requires.notes, (c.link.ensures.indices_len, (c.link.ensures.linked, c.requires.circuit_in_bounds))))

@@ -6,7 +6,7 @@ use borrow.Author.Rules.{rules}
 use Rattle.writer.proofs.noting.note_all.Goals as goal
 
 pub note_steps-requires : goal.note_steps-requires
-note_steps-requires c = (sym c.read_header.ensures ∙ ap header_read c.width-1.given.1, (c.requires.0, c.requires.1))
+note_steps-requires c = (sym c.read_header.ensures ∙ ap header_read c.in-Width.is, (c.requires.kept, c.requires.rows_value))
 
 pub returns-in-Refused : goal.returns-in-Refused
-returns-in-Refused c = header_refused (sym c.read_header.ensures ∙ ap header_read c.r-1.given.1)
+returns-in-Refused c = header_refused (sym c.read_header.ensures ∙ ap header_read c.in-Refused.is)

@@ -12,36 +12,36 @@ use borrow.Author.Rules.{rules}
 use Rattle.writer.proofs.noting.note_steps.Goals as goal
 
 pub loop-progress-init : goal.loop-progress-init
-loop-progress-init c = let start = c.fresh-fresh.ensures in (rw start, rw start, noting_start _ _ (rw start) c.requires.1.0 c.requires.1.1)
+loop-progress-init c = let start = c.fresh-fresh.ensures in (rw start, rw start, noting_start _ _ (rw start) c.requires.kept c.requires.rows_value)
 
 pub overflow_sub-index : goal.overflow_sub-index
 overflow_sub-index c = c.loop-progress.invariant.2.few
 
 pub returns-in-End : goal.returns-in-End
-returns-in-End c = let told = turn _ _ _ _ _ _ _ c.enum_told-1.given.1 c.take_step.ensures in
+returns-in-End c = let told = turn _ _ _ _ _ _ _ c.in-End.is c.take_step.ensures in
     let g = c.loop-progress.invariant.2 in
-    (c.close.ensures ∙ noting_told _ _ g c.requires.0 told, kept_all _ _ g c.requires.0 _ told)
+    (c.close.ensures ∙ noting_told _ _ g c.requires.circuit_value told, kept_all _ _ g c.requires.circuit_value _ told)
 
 pub returns-in-Refused : goal.returns-in-Refused
-returns-in-Refused c = let told = turn _ _ _ _ _ _ _ c.r-1.given.1 c.take_step.ensures in
+returns-in-Refused c = let told = turn _ _ _ _ _ _ _ c.in-Refused.is c.take_step.ensures in
     let g = c.loop-progress.invariant.2 in
-    (noting_told _ _ g c.requires.0 told, kept_refused _ _ g c.requires.0 told refl)
+    (noting_told _ _ g c.requires.circuit_value told, kept_refused _ _ g c.requires.circuit_value told refl)
 
 pub note-requires : goal.note-requires
-note-requires c = let taken = turn _ _ _ _ _ _ _ c.sketch-1.given.1 c.take_step.ensures in
+note-requires c = let taken = turn _ _ _ _ _ _ _ c.in-Step.is c.take_step.ensures in
     let g = c.loop-progress.invariant.2 in
     (noting_below _ _ g taken, noting_near _ _ g taken)
 
 pub overflow_add-index : goal.overflow_add-index
-overflow_add-index c = omega (arith, noting_below _ _ c.loop-progress.invariant.2 (turn _ _ _ _ _ _ _ c.sketch-1.given.1 c.take_step.ensures))
+overflow_add-index c = omega (arith, noting_below _ _ c.loop-progress.invariant.2 (turn _ _ _ _ _ _ _ c.in-Step.is c.take_step.ensures))
 
 pub loop-progress-smaller : goal.loop-progress-smaller
-loop-progress-smaller c = omega (arith, noting_below _ _ c.loop-progress.invariant.2 (turn _ _ _ _ _ _ _ c.sketch-1.given.1 c.take_step.ensures))
+loop-progress-smaller c = omega (arith, noting_below _ _ c.loop-progress.invariant.2 (turn _ _ _ _ _ _ _ c.in-Step.is c.take_step.ensures))
 
 pub loop-progress-preserved : goal.loop-progress-preserved
 loop-progress-preserved c = let i = c.loop-progress.invariant in
-    let taken = turn _ _ _ _ _ _ _ c.sketch-1.given.1 c.take_step.ensures in (
+    let taken = turn _ _ _ _ _ _ _ c.in-Step.is c.take_step.ensures in (
       c.take_step.auto.1.1.1.1.0 ∙ i.0,
       c.take_step.auto.1.1.1.1.1.0 ∙ i.1,
-      noting_on _ _ i.2 taken c.note.ensures.0 c.note.ensures.1.0 c.note.ensures.1.1.0 c.note.ensures.1.1.1 c.join_sets.ensures,
+      noting_on _ _ i.2 taken c.note.ensures.forms_after c.note.ensures.firsts_after c.note.ensures.seconds_after c.note.ensures.places_after c.join_sets.ensures,
     )

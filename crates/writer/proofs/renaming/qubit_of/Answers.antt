@@ -6,12 +6,12 @@ use Rattle.writer.proofs.Chains.{count_at, tells_qubit}
 use Rattle.writer.proofs.renaming.qubit_of.Goals as goal
 
 pub returns-then-told-lt-UNKNOWN : goal.returns-then-told-lt-UNKNOWN
-returns-then-told-lt-UNKNOWN c = tells_qubit c.args.lenders.lenders c.args.width c.args.wire.0 _ c.requires.0 c.if-told-lt-UNKNOWN.true
+returns-then-told-lt-UNKNOWN c = tells_qubit c.args.lenders.lenders c.args.width c.args.wire.0 _ c.requires.tells c.if-told-lt-UNKNOWN.true
 
 pub returns-then-at-lt-MOST_WIRES : goal.returns-then-at-lt-MOST_WIRES
 unfolding qubit_of
 returns-then-at-lt-MOST_WIRES c = let first = c.first_of-first in
-    count_at c.args.lenders.lenders c.args.width _ c.requires.1 first.result.0 c.if-at-lt-MOST_WIRES.true ∙ ap (firsts_below c.args.lenders.lenders c.args.width) first.ensures
+    count_at c.args.lenders.lenders c.args.width _ c.requires.counts_value first.result.0 c.if-at-lt-MOST_WIRES.true ∙ ap (firsts_below c.args.lenders.lenders c.args.width) first.ensures
 
 pub returns : goal.returns
 unfolding qubit_of

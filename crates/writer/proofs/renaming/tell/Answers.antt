@@ -9,11 +9,11 @@ pub returns-then-lender-wire : goal.returns-then-lender-wire
 returns-then-lender-wire c = let lender = c.lender_of-lender in
     let takes = sym c.takes.ensures ∙ c.if-takes.true in
     let lower = c.if-lender-wire.true in
-    tells_on c.args.lenders.lenders c.args.width c.args.wire.0 lender.result.0 takes lender.ensures lower _ (c.requires.1.1.1 lender.result.0 lower)
+    tells_on c.args.lenders.lenders c.args.width c.args.wire.0 lender.result.0 takes lender.ensures lower _ (c.requires.by_index lender.result.0 lower)
 
 pub returns-else-lender-wire : goal.returns-else-lender-wire
 returns-else-lender-wire c = inl refl
 
 pub returns-else-takes : goal.returns-else-takes
 returns-else-takes c = let first = sym c.takes.ensures ∙ c.if-takes.false in
-    tells_first c.args.lenders.lenders c.args.width c.args.wire.0 _ first (count_at c.args.lenders.lenders c.args.width _ c.requires.1.1.0 c.args.wire.0 c.requires.0)
+    tells_first c.args.lenders.lenders c.args.width c.args.wire.0 _ first (count_at c.args.lenders.lenders c.args.width _ c.requires.counts_value c.args.wire.0 c.requires.wire_lt_most_wires)
