@@ -58,7 +58,7 @@ module _ (mark : ℕ → ℕ → Bool) (score : ℕ → ℕ → ℕ) where
     passed skip none h = one_more (λ l t. mark l t ≡ false) h skip
     passed skip (some b) h = record {
       scored = h.scored;
-      is_yes = h.is-yes;
+      is_yes = h.is_yes;
       among = earlier_next u v _ _ h.among;
       highest = one_more (λ l t. mark l t ≡ true → score l t ≤ b.score) h.highest (λ k. absurd (not_both (mark u v) k skip));
       lowest = one_more (λ l t. mark l t ≡ true → score l t ≡ b.score → NotAfter b.pair.0 b.pair.1 l t) h.lowest (λ k. absurd (not_both (mark u v) k skip));
@@ -82,7 +82,7 @@ module _ (mark : ℕ → ℕ → Bool) (score : ℕ → ℕ → ℕ) where
       leads_still : (b : Tried) → Leads u v b → score u v ≤ b.score → Leads u (suc v) b
       leads_still b h le = record {
         scored = h.scored;
-        is_yes = h.is-yes;
+        is_yes = h.is_yes;
         among = earlier_next u v _ _ h.among;
         highest = one_more (λ l t. mark l t ≡ true → score l t ≤ b.score) h.highest (λ k. le);
         lowest = one_more (λ l t. mark l t ≡ true → score l t ≡ b.score → NotAfter b.pair.0 b.pair.1 l t) h.lowest (λ k s. elim h.among [
@@ -126,7 +126,7 @@ module _ (mark : ℕ → ℕ → Bool) (score : ℕ → ℕ → ℕ) where
     next_lender u none h = λ l t e. refuted (mark l t) (λ m. not_both (mark l t) m (h l t (row_earlier u l t e m)))
     next_lender u (some b) h = record {
       scored = h.scored;
-      is_yes = h.is-yes;
+      is_yes = h.is_yes;
       among = earlier_row u _ _ h.among;
       highest = λ l t e m. h.highest l t (row_earlier u l t e m) m;
       lowest = λ l t e m. h.lowest l t (row_earlier u l t e m) m;
@@ -143,7 +143,7 @@ module _ (mark : ℕ → ℕ → Bool) (score : ℕ → ℕ → ℕ) where
       where
         all : (b : Tried) → Leads w 0 b → Best mark score b.pair
         all b h = record {
-          is_yes = h.is-yes;
+          is_yes = h.is_yes;
           highest = λ l t m. subst (λ (x : ℕ). score l t ≤ x) h.scored (h.highest l t (inl (within l t m).0) m);
           lowest = λ l t m s. let same : score l t ≡ b.score = cc in h.lowest l t (inl (within l t m).0) m same;
         }
@@ -171,10 +171,10 @@ module _ (mark : ℕ → ℕ → Bool) (score : ℕ → ℕ → ℕ) where
   -- THEOREM: there is one best pair.
   pub best_one : (p q : Pair) → Best mark score p → Best mark score q → p ≡ q
   best_one p q h k =
-      let le : score q.0 q.1 ≤ score p.0 p.1 = h.highest q.0 q.1 k.is-yes in
-      let ge : score p.0 p.1 ≤ score q.0 q.1 = k.highest p.0 p.1 h.is-yes in
+      let le : score q.0 q.1 ≤ score p.0 p.1 = h.highest q.0 q.1 k.is_yes in
+      let ge : score p.0 p.1 ≤ score q.0 q.1 = k.highest p.0 p.1 h.is_yes in
       let same : score q.0 q.1 ≡ score p.0 p.1 = omega arith in
-      both_ways (h.lowest q.0 q.1 k.is-yes same) (k.lowest p.0 p.1 h.is-yes (sym same))
+      both_ways (h.lowest q.0 q.1 k.is_yes same) (k.lowest p.0 p.1 h.is_yes (sym same))
     where
       both_ways : NotAfter p.0 p.1 q.0 q.1 → NotAfter q.0 q.1 p.0 p.1 → p ≡ q
       both_ways (inl a) (inl b) = absurd (omega arith)

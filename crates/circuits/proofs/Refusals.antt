@@ -211,8 +211,8 @@ module _ (s : List ℕ) (width : ℕ) (narrow : width ≤ most_wires) where
       let low = l.low in
       record {
         low = low;
-        not_finished = open_before p c is (omega arith) width i j l.not-finished;
-        not_measured = open_unmeasured p c is (omega arith) i l.not-finished l.not_measured;
+        not_finished = open_before p c is (omega arith) width i j l.not_finished;
+        not_measured = open_unmeasured p c is (omega arith) i l.not_finished l.not_measured;
         lower = λ x h. elim (l.lower x h) [
           | inl f ↦ finished_behind x c is (omega arith) i f
           | inr m ↦ inr (suc m.0, m.1, m.2)

@@ -138,7 +138,7 @@ module _ (x : ℕ) where
       record {
         meas_at = subst (λ k. at (measures x) (i ∷ is) k ≡ true) (sym e) l.meas_at;
         last = last_behind i is e l.last;
-        no_reset = at_cases (resets x) i is (λ k. ⊥) (λ h. not_both (resets x i) h r) l.no-reset;
+        no_reset = at_cases (resets x) i is (λ k. ⊥) (λ h. not_both (resets x i) h r) l.no_reset;
       }
 
   life_lasts : {n : ℕ} {is : List Instruction} → Life x n is → n ≡ in_use → Lasts is
@@ -185,7 +185,7 @@ module _ (x : ℕ) where
         meas_at = subst (λ k. at (measures x) (i ∷ is) k ≡ true) (sym z) l.meas_at;
         first = λ k h. omega arith;
         last = last;
-        one_reset = at_cases (resets x) i is (λ k. k ≡ reset_of (i ∷ is) x) (λ h. sym a) (λ k h. absurd (l.no-reset k h));
+        one_reset = at_cases (resets x) i is (λ k. k ≡ reset_of (i ∷ is) x) (λ h. sym a) (λ k h. absurd (l.no_reset k h));
         one_meas = only_meas (i ∷ is) last;
       }
   life_spans (works t g r) e = absurd (omega arith)

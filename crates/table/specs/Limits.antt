@@ -4,7 +4,7 @@ use Rattle.circuits.specs.Limits as circuit
 
 -- the most wires of a circuit: the rows of a table, and the marks of a row
 abbrev pub most_wires : ℕ
-most_wires = circuit.mostWires
+most_wires = circuit.most_wires
 
 -- the bytes of a row, or of a set of used wires
 abbrev pub row_bytes : ℕ

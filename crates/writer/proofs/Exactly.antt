@@ -32,14 +32,14 @@ module _ (s list : List ℕ) (c : Static) (e : read_circuit s ≡ done c) where
   told = record { circuit = c; is = e; width = refl; instructions = refl }
 
   -- the pairs in the order of the list give what they give with the latest first
-  turned : (ps : List Pair) → Allowed (precedence.circuitOf c) ps → dynamic_of c (reverse ps) ≡ dynamic_of c ps
+  turned : (ps : List Pair) → Allowed (precedence.circuit_of c) ps → dynamic_of c (reverse ps) ≡ dynamic_of c ps
   turned ps a =
       ap (λ (ls : List ℕ). dynamic (output ls c) (qubits ls c.width) (length (reverse ps))) lenders
       ∙ ap (λ (n : ℕ). dynamic (output (lenders_in ps) c) (qubits (lenders_in ps) c.width) n) (length-reverse ps)
     where
       lenders : lenders_in (reverse ps) ≡ lenders_in ps
       lenders =
-          sym (same_lenders ps (reverse ps) (same_turned (precedence.circuitOf c) ps) a.take_once (allowed_turned (precedence.circuitOf c) ps a).take_once
+          sym (same_lenders ps (reverse ps) (same_turned (precedence.circuit_of c) ps) a.take_once (allowed_turned (precedence.circuit_of c) ps a).take_once
           (λ l t h. let low = (circuit_lawful c (read_wired s e)).low t (a.between l t h).1 in let n = (read_valid s e).narrow in omega arith))
 
   module _ (room : ℕ) (enough : length s + 1 ≤ room) where
@@ -52,7 +52,7 @@ module _ (s list : List ℕ) (c : Static) (e : read_circuit s ≡ done c) where
         ∙ ap (handing (dynamic_of c g.pairs)) (fitted-done room (output (lenders_in g.pairs) c) (omega (arith, size)))
 
     -- THEOREM: a well formed list whose pairs meet Theorem 1's conditions is accepted, and their dynamic circuit is written.
-    pub allowed_written : (a : AllowedList (precedence.circuitOf c) list) → compiled s list room ≡ done (dynamic_of c a.pairs)
+    pub allowed_written : (a : AllowedList (precedence.circuit_of c) list) → compiled s list room ≡ done (dynamic_of c a.pairs)
     allowed_written a =
         let w = list_accepted s list c e a in
         accepted_written w.growing w.is
@@ -60,10 +60,10 @@ module _ (s list : List ℕ) (c : Static) (e : read_circuit s ≡ done c) where
         ∙ ap (λ (d : Dynamic). done d) (turned a.pairs a.allowed)
 
     -- THEOREM: only of such a list is anything written, and it is their dynamic circuit.
-    pub written_allowed : (d : Dynamic) → compiled s list room ≡ done d → (a : AllowedList (precedence.circuitOf c) list) × (d ≡ dynamic_of c a.pairs)
+    pub written_allowed : (d : Dynamic) → compiled s list room ≡ done d → (a : AllowedList (precedence.circuit_of c) list) × (d ≡ dynamic_of c a.pairs)
     written_allowed d f = go (read_pairs (start_table c) list) refl
       where
-        go : (o : Outcome Growing) → read_pairs (start_table c) list ≡ o → (a : AllowedList (precedence.circuitOf c) list) × (d ≡ dynamic_of c a.pairs)
+        go : (o : Outcome Growing) → read_pairs (start_table c) list ≡ o → (a : AllowedList (precedence.circuit_of c) list) × (d ≡ dynamic_of c a.pairs)
         go (done g) z =
             let a = accepted_list s list c e g z in
             let y : done d ≡ done (dynamic_of c a.pairs) = sym f ∙ allowed_written a in

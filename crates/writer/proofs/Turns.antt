@@ -368,7 +368,7 @@ module _ (s : List ℕ) (told : Circuit) (a : Accepted s told) (lenders : List �
                 (moves_right lenders told forms firsts seconds notes_low (omega (arith, a.width, (read_valid s a.is).narrow)) below_width resets indices g.sized index _ _ b
                 (owns moved (g.written ++ index ∷ []) (λ y k. subst (λ z. Head is (g.written ++ index ∷ []) y (get_or z y 0)) set (new_heads y k)))
                 (ap (λ z. get_or indices z 0) n.first_is ∙ was_head _ (first_in it)) (ap (λ z. get_or indices z 0) n.second_is ∙ was_head _ (second_in it))
-                candidates g.sized-candidates g.right x l)
+                candidates g.sized_candidates g.right x l)
 
             pub going_on : (numbers : List ℕ) {newCandidates new : List ℕ} {stop : ℕ} → 0 < left → Renames lenders told.width numbers
                 → newCandidates ≡ tried_both lenders newIndices told forms firsts seconds (get_or firsts index 0) (get_or seconds index 0) candidates
@@ -381,7 +381,7 @@ module _ (s : List ℕ) (told : Circuit) (a : Accepted s told) (lenders : List �
               kept = written_more C (circuit_lawful a.circuit wired) ps g.written index g.kept chosen_inside chosen_ready;
               heads = new_heads;
               sized = ap length set ∙ headed-length _ _ _ _ indices ∙ g.sized;
-              sized_candidates = ap length tried-again ∙ both_length lenders newIndices told forms firsts seconds _ _ candidates ∙ g.sized-candidates;
+              sized_candidates = ap length tried-again ∙ both_length lenders newIndices told forms firsts seconds _ _ candidates ∙ g.sized_candidates;
               right = new_right tried-again;
               rest = remaining_call (steps_bytes (in_order q is (rest_on C ps (left - 1) (g.written ++ index ∷ []))))
                   (subst (λ z. Wrote out to (instruction_bytes z) new stop) (renamed_same _ q it agree) (wrote it (most_instructions - index) (told_noted at-is after_is)))

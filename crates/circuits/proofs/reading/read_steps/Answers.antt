@@ -17,24 +17,24 @@ loop-progress-init c = let start = c.fresh-fresh.ensures in
 
 pub returns-in-End : goal.returns-in-End
 returns-in-End c = c.close.ensures
-    ∙ ap (counted _ _) (sym (turn _ _ _ _ _ _ _ c.in-End.is c.take_step.ensures))
+    ∙ ap (counted _ _) (sym (turn _ _ _ _ _ _ _ c.in-End.is (c.take_step.ensures.result_value, c.take_step.ensures.uses_after)))
     ∙ c.loop-progress.invariant.3
 
 pub returns-in-Refused : goal.returns-in-Refused
-returns-in-Refused c = ap (counted _ _) (sym (turn _ _ _ _ _ _ _ c.in-Refused.is c.take_step.ensures))
+returns-in-Refused c = ap (counted _ _) (sym (turn _ _ _ _ _ _ _ c.in-Refused.is (c.take_step.ensures.result_value, c.take_step.ensures.uses_after)))
     ∙ c.loop-progress.invariant.3
 
 pub overflow_sub-left-in-Step : goal.overflow_sub-left-in-Step
-overflow_sub-left-in-Step c = (turn _ _ _ _ _ _ _ c.in-Step.is c.take_step.ensures).allowed
+overflow_sub-left-in-Step c = (turn _ _ _ _ _ _ _ c.in-Step.is (c.take_step.ensures.result_value, c.take_step.ensures.uses_after)).allowed
 
 pub loop-progress-smaller : goal.loop-progress-smaller
-loop-progress-smaller c = omega (arith, (turn _ _ _ _ _ _ _ c.in-Step.is c.take_step.ensures).allowed)
+loop-progress-smaller c = omega (arith, (turn _ _ _ _ _ _ _ c.in-Step.is (c.take_step.ensures.result_value, c.take_step.ensures.uses_after)).allowed)
 
 pub loop-progress-preserved : goal.loop-progress-preserved
 loop-progress-preserved c = let inv = c.loop-progress.invariant in
-    let taken = turn _ _ _ _ _ _ _ c.in-Step.is c.take_step.ensures in (
+    let taken = turn _ _ _ _ _ _ _ c.in-Step.is (c.take_step.ensures.result_value, c.take_step.ensures.uses_after) in (
       omega (arith, inv.0),
-      c.take_step.auto.1.1.1.1.0 ∙ inv.1,
-      c.take_step.auto.1.1.1.1.1.0 ∙ inv.2,
+      c.take_step.auto.progress ∙ inv.1,
+      c.take_step.auto.uses ∙ inv.2,
       sym (counts_on _ _ _ _ _ _ most_instructions inv.0 taken) ∙ inv.3,
     )

@@ -11,7 +11,7 @@ returns-then-out-circuit c = settled_refused (no_room _ (accepted _ (sym (ap rea
 
 pub write_steps-requires : goal.write_steps-requires
 write_steps-requires c = let a = accepted _ (sym (ap reading_of c.in-Valid.is) ∙ c.read.ensures) in
-    (steps_stand _ a, steps_fit _ a c.if-out-circuit.false c.write_record-from.ensures)
+    record { steps = steps_stand _ a; circuit_in_bounds = steps_fit _ a c.if-out-circuit.false c.write_record-from.ensures }
 
 pub returns-in-Refused : goal.returns-in-Refused
 returns-in-Refused c = settled_refused (not_read _ _ (turned_away _ (sym (ap reading_of c.in-Refused.is) ∙ c.read.ensures)))

@@ -15,7 +15,7 @@ returns-then-left-eq0 c = c.refuse.ensures ∙ rw (lt-leb _ _ c.if-s-at.false, e
 
 pub returns-then-allowed : goal.returns-then-allowed
 unfolding step_at instruction_at
-returns-then-allowed c = c.step_of_lem.ensures
+returns-then-allowed c = c.step_of.ensures
     ∙ ap (step_of _) c.record_at.ensures
     ∙ rw (lt-leb _ _ c.if-s-at.false, ne_eqb _ _ c.if-left-eq0.false, sym c.allowed.ensures ∙ c.if-allowed.true)
 

@@ -41,7 +41,7 @@ loop-progress-smaller c = omega (arith, noting_below _ _ c.loop-progress.invaria
 pub loop-progress-preserved : goal.loop-progress-preserved
 loop-progress-preserved c = let i = c.loop-progress.invariant in
     let taken = turn _ _ _ _ _ _ _ c.in-Step.is c.take_step.ensures in (
-      c.take_step.auto.1.1.1.1.0 ∙ i.0,
-      c.take_step.auto.1.1.1.1.1.0 ∙ i.1,
+      c.take_step.auto.progress ∙ i.0,
+      c.take_step.auto.uses ∙ i.1,
       noting_on _ _ i.2 taken c.note.ensures.forms_after c.note.ensures.firsts_after c.note.ensures.seconds_after c.note.ensures.places_after c.join_sets.ensures,
     )
