@@ -39,6 +39,12 @@ module _ (width : ℕ) (c : States) where
   named_below (TwoLineGate k l m) e x (inr (inl h)) = subst (λ z. z < width) (sym h) (two_passed width c l m e).1.0
   named_below (AngledTwoLineGate k l m a) e x (inl h) = subst (λ z. z < width) (sym h) (two_passed width c l m e).0.0
   named_below (AngledTwoLineGate k l m a) e x (inr (inl h)) = subst (λ z. z < width) (sym h) (two_passed width c l m e).1.0
+  named_below (Reset l) e x (inr z) = elim z [ ]
+  named_below (Measurement l b) e x (inr z) = elim z [ ]
+  named_below (Gate k l) e x (inr z) = elim z [ ]
+  named_below (AngledGate k l a) e x (inr z) = elim z [ ]
+  named_below (TwoLineGate k l m) e x (inr (inr z)) = elim z [ ]
+  named_below (AngledTwoLineGate k l m a) e x (inr (inr z)) = elim z [ ]
 
   named_once : (i : Instruction) → judge_of width width c i ≡ passed → Once (lines_of i)
   named_once (Reset l) e = (λ h. h, tt)
@@ -105,10 +111,12 @@ module _ (width : ℕ) (narrow : width ≤ most_wires) (x : ℕ) (h : x < width)
 
   one_running : (c : States) (l : Line) → Stated c → Live width c l → In x (l.0 ∷ []) → state_of c ≡ in_use
   one_running c l s v (inl e) = running c l s v e
+  one_running c l s v (inr z) = elim z [ ]
 
   two_running : (c : States) (l m : Line) → Stated c → Live width c l → Live width c m → In x (l.0 ∷ m.0 ∷ []) → state_of c ≡ in_use
   two_running c l m s u v (inl e) = running c l s u e
   two_running c l m s u v (inr (inl e)) = running c m s v e
+  two_running c l m s u v (inr (inr z)) = elim z [ ]
 
   -- one instruction before the rest of a life
   life_step : (c : States) (i : Instruction) (is : List Instruction) → judge_of width width c i ≡ passed → Stated c → Life x (state_of (advance_of c i)) is
