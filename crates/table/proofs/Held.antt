@@ -12,7 +12,7 @@ use denote.Array.{in_array}
 use Rattle.basics.proofs.Arrays.{array_length, array_fit}
 use Rattle.table.specs.Limits.{most_wires}
 
-module _ (rows : List ℕ) {values : List Val} (held : shadow (in_array ℕ (UInt w32).own_val most_wires (map (λ v. v) rows) values)) where
+module _ (rows : List ℕ) {values : List Val} (held : shadow (in_array ℕ (UInt w32).own_val most_wires rows values)) where
   pub rows_held : length rows ≡ most_wires
   rows_held = array_length w32 most_wires rows values held
 

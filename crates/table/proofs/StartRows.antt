@@ -1,7 +1,7 @@
 -- The start pass in rows: each turn does to the rows what it does to the sets, so the rows at the end are the start table.
 -- Assumes nothing.
 use Prim.Native.Nat.{ℕ, suc, ◌^◌, ◌<◌}
-use mathlib.Core.Bool.{Bool, true, false, not, ◌&&◌, ◌||◌, or_false}
+use mathlib.Core.Bool.{Bool, true, false, not, ◌&&◌, ◌||◌, or-false}
 use mathlib.Core.Path.{◌≡◌, refl, sym, ap, ap₂, ◌∙◌}
 use mathlib.Core.Logic.{inl, inr}
 use mathlib.Core.List.{List, [], ◌∷◌, ◌++◌}
@@ -71,7 +71,7 @@ module _ (rows : List ℕ) (many : length rows ≡ most_wires) (fits : (x : ℕ)
           ∙ ap (λ (y : ℕ). sets_in rows y t || eqb t l.0) (eqb-true x l.0 e)))
       go x false e =
           own_row x
-          ∙ pack_ext most_wires (λ t k. sym (after_reset (sets_in rows) x t l ∙ ap (λ (b : Bool). sets_in rows x t || (b && eqb t l.0)) e ∙ or_false (sets_in rows x t)))
+          ∙ pack_ext most_wires (λ t k. sym (after_reset (sets_in rows) x t l ∙ ap (λ (b : Bool). sets_in rows x t || (b && eqb t l.0)) e ∙ or-false (sets_in rows x t)))
 
   -- both wires of a gate on two get the union of their sets
   pub two_rows : (l m : ℕ) (i : Instruction)

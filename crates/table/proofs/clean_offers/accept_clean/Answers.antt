@@ -19,7 +19,7 @@ pub loop-u-preserved : goal.loop-u-preserved
 loop-u-preserved c = let a = c.args in
     let given = c.row_of-given.result in
     let h = c.loop-u in
-    (search rules, simp length-set h.invariant.1, filled (λ j. pack most_wires (row_after (λ v. bit v given) (is_set a.t1 j) a.taker.0)) h.rows h.u c.row_left.result (search rules) h.invariant.2 c.row_left.ensures)
+    (search rules, simp length-set h.invariant.1, filled (λ j. pack most_wires (row_after (λ v. bit v given) (is_set a.table j) a.taker.0)) h.rows h.u c.row_left.result (search rules) h.invariant.2 c.row_left.ensures)
 
 pub returns : goal.returns
 unfolding accepted_clean

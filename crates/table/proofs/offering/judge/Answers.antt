@@ -7,37 +7,22 @@ use Rattle.table.proofs.Judgements.{wrong_table, not_below, already_lends, alrea
 use borrow.Author.Rules.{rules}
 use Rattle.table.proofs.offering.judge.Goals as goal
 
-right_width : (c : goal.Else-wrong_width) → wrong_width c.args.table ≡ false
-right_width c = sym c.wrong_width.ensures ∙ c.if-wrong_width.false
-
-
-both_below : (c : goal.Else-outside) → let a = c.args in outside_width a.table a.lender.0 a.taker.0 ≡ false
-both_below c = sym c.outside.ensures ∙ c.if-outside.false
-
-
-lends_not : (c : goal.Else-has) → let a = c.args in bit a.lender.0 a.table.lending ≡ false
-lends_not c = sym c.has.ensures ∙ c.if-has.false
-
-
-takes_not : (c : goal.Else-has-2) → let a = c.args in bit a.taker.0 a.table.taking ≡ false
-takes_not c = sym c.has-2.ensures ∙ c.if-has-2.false
-
 pub returns-then-wrong_width : goal.returns-then-wrong_width
 returns-then-wrong_width c = c.refuse.ensures ∙ sym (wrong_table _ _ _ (sym c.wrong_width.ensures ∙ c.if-wrong_width.true))
 
 pub returns-then-outside : goal.returns-then-outside
-returns-then-outside c = c.refuse-then-outside.ensures ∙ sym (not_below _ _ _ (right_width c) (sym c.outside.ensures ∙ c.if-outside.true))
+returns-then-outside c = c.refuse-then-outside.ensures ∙ sym (not_below _ _ _ (sym c.wrong_width.ensures ∙ c.if-wrong_width.false) (sym c.outside.ensures ∙ c.if-outside.true))
 
 pub returns-then-has : goal.returns-then-has
-returns-then-has c = c.refuse-then-has.ensures ∙ sym (already_lends _ _ _ (right_width c) (both_below c) (sym c.has.ensures ∙ c.if-has.true))
+returns-then-has c = c.refuse-then-has.ensures ∙ sym (already_lends _ _ _ (sym c.wrong_width.ensures ∙ c.if-wrong_width.false) (sym c.outside.ensures ∙ c.if-outside.false) (sym c.has.ensures ∙ c.if-has.true))
 
 pub returns-then-has-2 : goal.returns-then-has-2
 returns-then-has-2 c = c.refuse-then-has-2.ensures
-    ∙ sym (already_takes _ _ _ (right_width c) (both_below c) (lends_not c) (sym c.has-2.ensures ∙ c.if-has-2.true))
+    ∙ sym (already_takes _ _ _ (sym c.wrong_width.ensures ∙ c.if-wrong_width.false) (sym c.outside.ensures ∙ c.if-outside.false) (sym c.has.ensures ∙ c.if-has.false) (sym c.has-2.ensures ∙ c.if-has-2.true))
 
 pub returns-then-is_yes : goal.returns-then-is_yes
-returns-then-is_yes c = sym (is_taken _ _ _ (right_width c) (both_below c) (lends_not c) (takes_not c) (sym c.is_yes.ensures ∙ c.if-is_yes.true))
+returns-then-is_yes c = sym (is_taken _ _ _ (sym c.wrong_width.ensures ∙ c.if-wrong_width.false) (sym c.outside.ensures ∙ c.if-outside.false) (sym c.has.ensures ∙ c.if-has.false) (sym c.has-2.ensures ∙ c.if-has-2.false) (sym c.is_yes.ensures ∙ c.if-is_yes.true))
 
 pub returns-else-is_yes : goal.returns-else-is_yes
 returns-else-is_yes c = c.refuse-else-is_yes.ensures
-    ∙ sym (closes_loop _ _ _ (right_width c) (both_below c) (lends_not c) (takes_not c) (sym c.is_yes.ensures ∙ c.if-is_yes.false))
+    ∙ sym (closes_loop _ _ _ (sym c.wrong_width.ensures ∙ c.if-wrong_width.false) (sym c.outside.ensures ∙ c.if-outside.false) (sym c.has.ensures ∙ c.if-has.false) (sym c.has-2.ensures ∙ c.if-has-2.false) (sym c.is_yes.ensures ∙ c.if-is_yes.false))

@@ -14,5 +14,6 @@ returns-then-lender-lt-MOST c = let fits : get_or c.args.table.rows c.args.lende
     c.counting.ensures ∙ row_counts c.args.table c.args.lender.0 fits (record { is = c.unused-lenders.ensures }) (record { is = c.unused-takers.ensures }) (search rules)
 
 pub returns-else-lender-lt-MOST : goal.returns-else-lender-lt-MOST
-returns-else-lender-lt-MOST c = let n : length c.args.table.rows ≡ most_wires = rows_held c.args.table.rows c.well_formed.0.1.1.1.0 in
+returns-else-lender-lt-MOST c =
+    let n : length c.args.table.rows ≡ most_wires = rows_held c.args.table.rows c.well_formed.0.1.1.1.0 in
     no_row c.args.table c.args.lender.0 (omega arith)

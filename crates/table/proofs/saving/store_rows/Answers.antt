@@ -12,18 +12,15 @@ use Rattle.table.specs.Limits.{most_wires, row_bytes}
 use Rattle.table.proofs.saving.store_rows.Goals as goal
 
 
-row_count_lem : (c : goal.Start) → length c.args.table ≡ most_wires
-row_count_lem c = c.well_formed.0.1.0.1
-
 pub loop-u-init : goal.loop-u-init
-loop-u-init c = let rows = c.args.table in
-    (search rules, remaining_start (omega (arith, length-bytes_of_all row_bytes rows, row_count_lem c)))
+loop-u-init c = let rows = c.args.rows in
+    (search rules, remaining_start (omega (arith, length-bytes_of_all row_bytes rows, c.well_formed.0.1.0.1)))
 
 pub loop-u-preserved : goal.loop-u-preserved
 loop-u-preserved c = let h = c.loop-u in (
       search rules,
-      remaining_placed (bytes_of_all row_bytes (drop (h.u + 1) c.args.table)) c.put_row-to.ensures
-          (rw (all_next row_bytes h.u c.args.table (omega (arith, row_count_lem c))) at h.invariant.1),
+      remaining_placed (bytes_of_all row_bytes (drop (h.u + 1) c.args.rows)) c.put_row-to.ensures
+          (rw (all_next row_bytes h.u c.args.rows (omega (arith, c.well_formed.0.1.0.1))) at h.invariant.1),
     )
 
 pub shape_of-out : goal.shape_of-out
@@ -31,4 +28,4 @@ shape_of-out c = c.loop-u.invariant.1.same
 
 pub returns : goal.returns
 returns c = let h = c.loop-u in
-    remaining_end (all_none row_bytes h.u c.args.table (omega (arith, row_count_lem c))) h.invariant.1
+    remaining_end (all_none row_bytes h.u c.args.rows (omega (arith, c.well_formed.0.1.0.1))) h.invariant.1

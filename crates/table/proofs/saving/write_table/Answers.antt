@@ -10,14 +10,11 @@ use Rattle.table.proofs.SavedTables.{length-table_bytes}
 use borrow.Author.Rules.{rules}
 use Rattle.table.proofs.saving.write_table.Goals as goal
 
-byte_count : (c : goal.Start) → length (table_bytes c.args.table) ≡ table_length
-byte_count c = length-table_bytes c.args.table (rows_held c.args.table.rows c.well_formed.0.1.1.1.0)
-
 pub returns-then-out-lt-BYTES : goal.returns-then-out-lt-BYTES
-returns-then-out-lt-BYTES c = no_room (omega (arith, byte_count c))
+returns-then-out-lt-BYTES c = no_room (omega (arith, length-table_bytes c.args.table (rows_held c.args.table.rows c.well_formed.0.1.1.1.0)))
 
 pub returns-then-out-at : goal.returns-then-out-at
-returns-then-out-at c = no_room (omega (arith, byte_count c))
+returns-then-out-at c = no_room (omega (arith, length-table_bytes c.args.table (rows_held c.args.table.rows c.well_formed.0.1.1.1.0)))
 
 pub returns : goal.returns
-returns c = wrote_placed c.store_table.ensures (omega (arith, byte_count c))
+returns c = wrote_placed c.store_table.ensures (omega (arith, length-table_bytes c.args.table (rows_held c.args.table.rows c.well_formed.0.1.1.1.0)))

@@ -1,6 +1,6 @@
 -- `table::starting::add_wire` meets its contract. Assumes nothing.
 use mathlib.Core.Path.{sym, ap, ◌∙◌}
-use mathlib.Core.Bool.{Bool, or_false, ◌||◌}
+use mathlib.Core.Bool.{Bool, or-false, ◌||◌}
 use native.Mathlib.Omega.{arith}
 use borrow.Author.Tests.{ne_eqb}
 use Rattle.table.specs.Limits.{most_wires}
@@ -15,4 +15,4 @@ returns-then-wire-lt-MOST c = let a = c.args in (or_is (own most_wires {n = a.ro
 pub returns-else-wire-lt-MOST : goal.returns-else-wire-lt-MOST
 returns-else-wire-lt-MOST c = let a = c.args in
     (same (own most_wires {n = a.row} (search rules))
-    (λ t l. sym (or_false (bit t a.row)) ∙ ap (λ (b : Bool). bit t a.row || b) (sym (ne_eqb t a.wire.0 (λ e. omega arith))))).is
+    (λ t l. sym (or-false (bit t a.row)) ∙ ap (λ (b : Bool). bit t a.row || b) (sym (ne_eqb t a.wire.0 (λ e. omega arith))))).is

@@ -20,12 +20,12 @@ loop-lender-preserved c = let h = c.loop-lender in
     let a = c.args in (
       search rules,
       simp length-set h.invariant.1,
-      filled (λ l. pack most_wires (start_row a.width (get_or a.t2.rows l 0) l)) h.rows h.lender c.start_row.result (search rules) h.invariant.2 c.start_row.ensures,
+      filled (λ l. pack most_wires (start_row a.width (get_or a.sets.rows l 0) l)) h.rows h.lender c.start_row.result (search rules) h.invariant.2 c.start_row.ensures,
     )
 
 pub returns : goal.returns
 unfolding start_from
 returns c = let h = c.loop-lender in
     let a = c.args in
-    let rows = each_eq most_wires (λ l. pack most_wires (start_row a.width (get_or a.t2.rows l 0) l)) h.rows h.invariant.1 (λ l k. h.invariant.2 l (omega arith)) in
+    let rows = each_eq most_wires (λ l. pack most_wires (start_row a.width (get_or a.sets.rows l 0) l)) h.rows h.invariant.1 (λ l k. h.invariant.2 l (omega arith)) in
     λ i. record { width = a.width; rows = rows i; lending = 0; taking = 0 }
