@@ -166,7 +166,7 @@ module _ (mark : ℕ → ℕ → Bool) (score : ℕ → ℕ → ℕ) where
       where
         go : (o : Option Pair) → best_below mark score w ≡ o → best_below mark score w ≡ none
         go none e = e
-        go (some p) e = absurd (not_both (mark p.0 p.1) (best_found p e).is-yes (none-yes p.0 p.1))
+        go (some p) e = absurd (not_both (mark p.0 p.1) (best_found p e).is_yes (none-yes p.0 p.1))
 
   -- THEOREM: there is one best pair.
   pub best_one : (p q : Pair) → Best mark score p → Best mark score q → p ≡ q

@@ -34,7 +34,7 @@ use Rattle.choosers.proofs.GreedyRounds.{best_is, none_left, chosen, rounds_over
 pub rule_chooses : (w : ℕ) → Chooses w (greedy_rule w)
 unfolding greedy_rule
 rule_chooses w = record {
-  only_yes = λ T h l t e. (best_found T.mark _ w h (l, t) e).is-yes;
+  only_yes = λ T h l t e. (best_found T.mark _ w h (l, t) e).is_yes;
   none_left = λ T h e. best_none T.mark _ w h e;
 }
 
@@ -66,7 +66,7 @@ rounds_are zero t ps right = refl
 rounds_are (suc k) t ps right = elim (chosen t) [
   | inl e ↦ rounds-none (greedy_rule t.width) (suc k) (state_of t ps) (rule_best t right ∙ e) ∙ ap (left ps) (sym (rounds_over t (suc k) e))
   | inr (p, e) ↦ (
-      let mark = (best_is t p e).is-yes in
+      let mark = (best_is t p e).is_yes in
       let new = accepted t p.0 p.1 in
       rounds-some (greedy_rule t.width) k (state_of t ps) p (rule_best t right ∙ e) mark
       ∙ ap (λ (T : orders.Table). rounds (greedy_rule t.width) k (record { table = T; pairs = p ∷ ps })) (sym (accept_marks t right p.0 p.1 mark))

@@ -67,7 +67,7 @@ pairs_few zero t right = omega (arith, tally_le t.width (lends t))
 pairs_few (suc k) t right = elim (chosen t) [
   | inl e ↦ rw (rounds_over t (suc k) e) (omega (arith, tally_le t.width (lends t)))
   | inr (p, e) ↦ (
-      let mark = (best_is t p e).is-yes in
+      let mark = (best_is t p e).is_yes in
       let new = accepted t p.0 p.1 in
       let after-it = (yes_updated t right p.0 p.1 mark).lenders in
       let more = tally_less t.width (lends t) (lends new) (λ u h. after-it u ∙ or_right (eqb u p.0) (lends t u) h) p.0 (counts_within t p.0 p.1 mark).0 (lends_not t p.0 p.1 mark) (after-it p.0 ∙ rw (eq-eqb p.0 p.0 refl)) in

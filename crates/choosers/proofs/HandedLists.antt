@@ -76,7 +76,7 @@ rounds_below zero t right = tt
 rounds_below (suc k) t right = elim (chosen t) [
   | inl e ↦ rw (rounds_over t (suc k) e) tt
   | inr (p, e) ↦ (
-      let within = counts_within t p.0 p.1 (best_is t p e).is-yes in
+      let within = counts_within t p.0 p.1 (best_is t p e).is_yes in
       rw (rounds_go_on t k p e) (within.0, within.1, rounds_below k (accepted t p.0 p.1) (still_right t right p.0 p.1))
       )
 ]

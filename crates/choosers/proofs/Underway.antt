@@ -98,7 +98,7 @@ module _ (t : Table) (right : wrong_width t ≡ false) where
         over : best_pair r.table ≡ none
         over = elim (chosen r.table) [
           | inl e ↦ e
-          | inr (p, e) ↦ absurd (omega (arith, h.counted, (yes_updated r.table h.right p.0 p.1 (best_is r.table p e).is-yes).fewer))
+          | inr (p, e) ↦ absurd (omega (arith, h.counted, (yes_updated r.table h.right p.0 p.1 (best_is r.table p e).is_yes).fewer))
         ]
 
         nothing_more : with h.pairs r.trials (ended r.table) ≡ record { pairs = h.pairs; table = r.table; trials = r.trials }
@@ -155,7 +155,7 @@ module _ (t : Table) (right : wrong_width t ≡ false) where
           still = still_right r.table h.right p.0 p.1
 
           fewer : marks_of (accepted r.table p.0 p.1) < marks_of r.table
-          fewer = (yes_updated r.table h.right p.0 p.1 (best_is r.table p next.1).is-yes).fewer
+          fewer = (yes_updated r.table h.right p.0 p.1 (best_is r.table p next.1).is_yes).fewer
 
           go : n ≡ beside 0 (count_of (accepted r.table p.0 p.1)) → Underway t (round_after r marks (some p)) n × (n < marks)
           go c =

@@ -9,7 +9,11 @@ loop-marks-init c = underway_first c.args.table c.requires c.empty.result c.empt
 pub round-rounds-requires : goal.round-rounds-requires
 round-rounds-requires c = let l = c.loop-marks in
     let t = c.args.table in
-    (l.invariant.right, (room t c.requires l.rounds l.marks l.invariant (search rules), trials_room t c.requires l.rounds l.marks l.invariant (search rules)))
+    record {
+      table_value = l.invariant.right;
+      length_lt_most_pairs = room t c.requires l.rounds l.marks l.invariant (search rules);
+      marks_bound = trials_room t c.requires l.rounds l.marks l.invariant (search rules);
+    }
 
 pub loop-marks-smaller : goal.loop-marks-smaller
 loop-marks-smaller c = let l = c.loop-marks in

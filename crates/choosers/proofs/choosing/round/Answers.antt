@@ -16,9 +16,6 @@ try_pairs-best-requires c = c.requires.table_value
 pub with_pair-list-requires : goal.with_pair-list-requires
 with_pair-list-requires c = c.requires.length_lt_most_pairs
 
--- LOST add-t10
-add-t10 c = record { fits = c.before.before.before.before.before.before.before.before.before.requires.1.1 }
-
 pub returns-in-Nothing : goal.returns-in-Nothing
 unfolding best_pair
 returns-in-Nothing c = ap (λ o. round_after c.args.rounds c.args.marks (map (λ (b : Tried). b.pair) o)) (sym (ap best_said c.in-Nothing.is) ∙ c.try_pairs-best.ensures)
@@ -28,5 +25,5 @@ unfolding best_pair
 returns-in-Found c = let a = c.args in
     let t = a.rounds.table in
     let best = ap (map (λ (b : Tried). b.pair)) (sym c.try_pairs-best.ensures ∙ ap best_said c.in-Found.is) in
-    let taken = c.offer-offered.ensures.1 ∙ ap (beside t) (yes_offered t c.requires.table_value _ _ (best_is t _ best).is-yes) in
+    let taken = c.offer-offered.ensures.1 ∙ ap (beside t) (yes_offered t c.requires.table_value _ _ (best_is t _ best).is_yes) in
     (λ i. record { list = c.with_pair-list.ensures i; table = taken i; trials = a.rounds.trials + a.marks }) ∙ ap (round_after a.rounds a.marks) (sym best)

@@ -21,7 +21,11 @@ loop-lender-init c = (search rules, fits c.args.table c.requires, ap length c.al
 
 pub try_takers-best-requires : goal.try_takers-best-requires
 try_takers-best-requires c = let l = c.loop-lender in
-    (c.requires, (set_aside c.args.table l.rows l.invariant.3 l.lender (search rules), own_row c.args.table l.rows l.invariant.3 l.lender (search rules)))
+    record {
+      table_value = c.requires;
+      rows_value = set_aside c.args.table l.rows l.invariant.3 l.lender (search rules);
+      given_value = own_row c.args.table l.rows l.invariant.3 l.lender (search rules);
+    }
 
 pub loop-lender-preserved : goal.loop-lender-preserved
 unfolding try_lenders

@@ -14,6 +14,7 @@ use Rattle.choosers.specs.Results.{best_said}
 use Rattle.choosers.proofs.YesPairs.{fits}
 use Rattle.choosers.proofs.Scores.{tries_yes, tries_not, tries_none}
 use Rattle.choosers.proofs.choosing.try_takers.Goals as goal
+use Rattle.choosers.proofs.choosing.try_takers.Goals.{then-given-taker-eq1, else-given-taker-eq1}
 
 pub returns-then-given-eq0 : goal.returns-then-given-eq0
 returns-then-given-eq0 c = tries_none c.args.table c.requires.table_value c.args.lender.0 _ c.args.given c.requires.rows_value c.requires.given_value c.if-given-eq0.true _ (le_refl _) _
@@ -26,7 +27,8 @@ pub overflow_shr-given : goal.overflow_shr-given
 overflow_shr-given c = omega (arith, fits c.args.table c.requires.table_value, c.loop-taker-test.true)
 
 pub marks_left-score-requires : goal.marks_left-score-requires
-marks_left-score-requires c = (ap length c.requires.rows_value ∙ length-each _ _, fits c.args.table c.requires.table_value)
+marks_left-score-requires c =
+    record { rows_len = ap length c.requires.rows_value ∙ length-each _ _; width_le_most_wires = fits c.args.table c.requires.table_value }
 
 pub loop-taker-preserved : goal.loop-taker-preserved
 unfolding try_takers
@@ -35,10 +37,10 @@ loop-taker-preserved c = let l = c.loop-taker in
     let before = l.invariant.1 in (
       search rules,
       rw add-one
-          (⊎_elim
-          (λ w. ap best_said w.3 ∙ w.2.ensures ∙ tries_yes t c.requires.table_value c.args.lender.0 _ c.args.given c.requires.rows_value c.requires.given_value l.taker c.loop-taker-test.true (best_said l.now) w.0.taken _ w.1.ensures)
-          (λ w. ap best_said w.1 ∙ tries_not t c.requires.table_value c.args.lender.0 _ c.args.given c.requires.rows_value c.requires.given_value l.taker c.loop-taker-test.true (best_said l.now) w.0.left)
-          c.if-given-taker-eq1.branch
+          ((elim c.if-given-taker-eq1.branch [
+            | then-given-taker-eq1 w ↦ ap best_said w.now-is ∙ w.better_of-now.ensures ∙ tries_yes t c.requires.table_value c.args.lender.0 _ c.args.given c.requires.rows_value c.requires.given_value l.taker c.loop-taker-test.true (best_said l.now) w.if-given-taker-eq1.true _ w.marks_left-score.ensures
+            | else-given-taker-eq1 w ↦ ap best_said w.now-is ∙ tries_not t c.requires.table_value c.args.lender.0 _ c.args.given c.requires.rows_value c.requires.given_value l.taker c.loop-taker-test.true (best_said l.now) w.if-given-taker-eq1.false
+          ])
           ∙ ap (try_pair (counts t) (score_in t) c.args.lender.0 l.taker) before),
     )
 
