@@ -14,7 +14,7 @@ unfolding tried_below
 loop-x-init c = (omega arith, c.requires, refl)
 
 pub try_head-requires : goal.try_head-requires
-try_head-requires c = let l = c.loop-x in (l.invariant.1, omega (arith, l.invariant.1.narrow, c.loop-x-test.true))
+try_head-requires c = let l = c.loop-x in record { fit = l.invariant.1; wire_lt_most_wires = omega (arith, l.invariant.1.narrow, c.loop-x-test.true) }
 
 pub loop-x-preserved : goal.loop-x-preserved
 unfolding tried_below

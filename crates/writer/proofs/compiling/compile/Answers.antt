@@ -12,12 +12,12 @@ use borrow.Author.Rules.{rules}
 use Rattle.writer.proofs.compiling.compile.Goals as goal
 
 pub note_all-requires : goal.note_all-requires
-note_all-requires c = let size = length-replicate {A = ℕ} most_instructions 0 in (record { sized_forms = size; sized_firsts = size; sized_seconds = size; sized_places = length-replicate (most_instructions + 1) header_length; header = refl }, refl)
+note_all-requires c = let size = length-replicate {A = ℕ} most_instructions 0 in record { kept = record { sized_forms = size; sized_firsts = size; sized_seconds = size; sized_places = length-replicate (most_instructions + 1) header_length; header = refl }; rows_value = refl }
 
 pub write_in_room-requires : goal.write_in_room-requires
 write_in_room-requires c = let known = sym (ap reading_of c.in-Valid.is) ∙ c.note_all.ensures.result_value in
     let a = accepted _ known in
-    (known, (c.note_all.ensures.notes, told_length _ c.args.list.now a (table_is _ c.args.list.now a c.note_all.ensures.rows_after c.table_from.ensures) (settled_told _ _ c.read_pairs-paired.ensures) c.in-Accepted.is))
+    record { valid_value = known; notes = c.note_all.ensures.notes; circuit_len = told_length _ c.args.list.now a (table_is _ c.args.list.now a c.note_all.ensures.rows_after c.table_from.ensures) (settled_told _ _ c.read_pairs-paired.ensures) c.in-Accepted.is }
 
 pub returns-in-Refused : goal.returns-in-Refused
 returns-in-Refused c = compiled_refused (circuit_refused _ _ _ (turned_away _ (sym (ap reading_of c.in-Refused.is) ∙ c.note_all.ensures.result_value)))

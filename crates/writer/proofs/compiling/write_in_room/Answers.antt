@@ -8,7 +8,7 @@ pub returns-then-out-circuit : goal.returns-then-out-circuit
 returns-then-out-circuit c = room_short _ c.args.circuit.now _ c.requires.circuit_len c.if-out-circuit.true
 
 pub write_dynamic-bytes-requires : goal.write_dynamic-bytes-requires
-write_dynamic-bytes-requires c = (c.requires.valid_value, (c.requires.notes, omega (arith, c.requires.circuit_len, c.if-out-circuit.false)))
+write_dynamic-bytes-requires c = record { valid_value = c.requires.valid_value; notes = c.requires.notes; circuit_in_bounds = omega (arith, c.requires.circuit_len, c.if-out-circuit.false) }
 
 pub returns : goal.returns
 returns c = room_enough c.args.out.now c.args.circuit.now _ c.requires.circuit_len c.if-out-circuit.false c.write_dynamic-bytes.ensures c.qubits_for-qubits.ensures

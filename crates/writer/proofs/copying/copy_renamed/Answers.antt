@@ -5,10 +5,10 @@ use borrow.Author.Rules.{rules}
 use Rattle.writer.proofs.copying.copy_renamed.Goals as goal
 
 pub copy_two-requires : goal.copy_two-requires
-copy_two-requires c = let n = c.requires.by_index.2 in ((noted_two n c.if-form-eq-TWO.true, noted_within n), c.requires.from_in_bounds)
+copy_two-requires c = let n = c.requires.by_index.2 in record { from_bound = (noted_two n c.if-form-eq-TWO.true, noted_within n); from_in_bounds = c.requires.from_in_bounds }
 
 pub copy_one-requires : goal.copy_one-requires
-copy_one-requires c = let n = c.requires.by_index.2 in ((noted_one n, noted_within n), c.requires.from_in_bounds)
+copy_one-requires c = let n = c.requires.by_index.2 in record { from_bound = (noted_one n, noted_within n); from_in_bounds = c.requires.from_in_bounds }
 
 pub returns-then-form-eq-TWO : goal.returns-then-form-eq-TWO
 returns-then-form-eq-TWO c = λ i left n. wrote_two n (λ x. get_or c.args.renaming.qubits x 0) c.if-form-eq-TWO.true c.qubit.ensures c.qubit-then-form-eq-TWO.ensures c.copy_two.ensures

@@ -6,7 +6,7 @@ use Rattle.writer.proofs.dynamic.write_dynamic.Goals as goal
 
 pub write_steps-requires : goal.write_steps-requires
 write_steps-requires c = let a = accepted _ c.requires.valid_value in
-    (c.requires.valid_value, (c.requires.notes, steps_fit _ _ a _ c.qubits_for-qubits.ensures c.write_record-at.ensures c.requires.circuit_in_bounds))
+    record { valid_value = c.requires.valid_value; notes = c.requires.notes; circuit_in_bounds = steps_fit _ _ a _ c.qubits_for-qubits.ensures c.write_record-at.ensures c.requires.circuit_in_bounds }
 
 pub returns : goal.returns
 returns c = let a = accepted _ c.requires.valid_value in

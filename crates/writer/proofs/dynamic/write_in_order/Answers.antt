@@ -30,7 +30,7 @@ loop-left-init c = let a = accepted _ c.requires.valid_value in
     (a, c.requires.notes, array_length w8 most_wires c.args.lenders.lenders _ c.well_formed.1.1.0.1.1.0, going_start _ _ a c.args.lenders.lenders c.requires.notes (ap (λ o. steps_bytes (dynamic_in c.args.lenders.lenders o)) a.is) c.requires.circuit_in_bounds c.requires.heads_len c.requires.linked c.try_all.ensures)
 
 pub least-index-requires : goal.least-index-requires
-least-index-requires c = c.loop-left.invariant.3.sized-candidates
+least-index-requires c = c.loop-left.invariant.3.sized_candidates
 
 pub shape_of-out-then-valid-index : goal.shape_of-out-then-valid-index
 shape_of-out-then-valid-index c = c.loop-left.invariant.3.rest.same
@@ -65,7 +65,7 @@ bounds-forms-index c = omega (arith, chosen_below _ _ _ _ c.loop-left.invariant.
 pub copy_renamed-to-requires : goal.copy_renamed-to-requires
 copy_renamed-to-requires c = let one = c.wide.ensures in let two = c.wide-in-loop-left.ensures in
     let least = c.least-index.ensures in let inside : c.least-index.result < c.args.valid.instructions = omega (arith, c.if-valid-index.false) in
-    (chosen_there _ _ _ _ c.loop-left.invariant.1 c.loop-left.invariant.3 least inside one two, (notes_low _ _ c.loop-left.invariant.0 c.args.lenders.lenders c.loop-left.invariant.1 c.least-index.result (omega (arith, c.if-valid-index.false)), told_room _ _ _ _ c.loop-left.invariant.1 c.loop-left.invariant.3 least inside one two c.loop-left-test.true))
+    record { by_index = chosen_there _ _ _ _ c.loop-left.invariant.1 c.loop-left.invariant.3 least inside one two; first_lt_most_wires = notes_low _ _ c.loop-left.invariant.0 c.args.lenders.lenders c.loop-left.invariant.1 c.least-index.result (omega (arith, c.if-valid-index.false)); from_in_bounds = told_room _ _ _ _ c.loop-left.invariant.1 c.loop-left.invariant.3 least inside one two c.loop-left-test.true }
 
 pub offset_bounds-after_firsts-index : goal.offset_bounds-after_firsts-index
 offset_bounds-after_firsts-index c = omega (arith, chosen_below _ _ _ _ c.loop-left.invariant.1 c.loop-left.invariant.3 c.least-index.ensures (omega (arith, c.if-valid-index.false)))
@@ -80,7 +80,7 @@ pub bounds-after_seconds-index : goal.bounds-after_seconds-index
 bounds-after_seconds-index c = omega (arith, chosen_below _ _ _ _ c.loop-left.invariant.1 c.loop-left.invariant.3 c.least-index.ensures (omega (arith, c.if-valid-index.false)))
 
 pub move_on-requires : goal.move_on-requires
-move_on-requires c = let i = c.loop-left.invariant in (fitting _ _ i.0 _ i.1 i.2 i.3.sized i.3.sized-candidates, notes_low _ _ c.loop-left.invariant.0 c.args.lenders.lenders c.loop-left.invariant.1 c.least-index.result (omega (arith, c.if-valid-index.false)))
+move_on-requires c = let i = c.loop-left.invariant in record { fit = fitting _ _ i.0 _ i.1 i.2 i.3.sized i.3.sized_candidates; first_lt_most_wires = notes_low _ _ c.loop-left.invariant.0 c.args.lenders.lenders c.loop-left.invariant.1 c.least-index.result (omega (arith, c.if-valid-index.false)) }
 
 pub loop-left-preserved : goal.loop-left-preserved
 loop-left-preserved c = let i = c.loop-left.invariant in

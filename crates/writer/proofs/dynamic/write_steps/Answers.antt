@@ -16,7 +16,7 @@ overflow_cast-instructions c = omega (arith, few_instructions _ _ (accepted _ c.
 pub link-requires : goal.link-requires
 link-requires c = let a = accepted _ c.requires.valid_value in
     let size = length-replicate {A = ℕ} most_instructions c.args.valid.instructions in
-    ((few_instructions _ _ a, notes_low _ _ a c.args.lenders.lenders c.requires.notes), (refl, (size, size)))
+    record { instructions_le_most_instructions = (few_instructions _ _ a, notes_low _ _ a c.args.lenders.lenders c.requires.notes); indices_value = refl; after_firsts_len = (size, size) }
 
 pub write_in_order-requires : goal.write_in_order-requires
-write_in_order-requires c = (c.requires.valid_value, (c.requires.notes, (c.link.ensures.indices_len, (c.link.ensures.linked, c.requires.circuit_in_bounds))))
+write_in_order-requires c = record { valid_value = c.requires.valid_value; notes = c.requires.notes; heads_len = c.link.ensures.indices_len; linked = c.link.ensures.linked; circuit_in_bounds = c.requires.circuit_in_bounds }

@@ -4,4 +4,4 @@ use borrow.Author.Rules.{rules}
 use Rattle.writer.proofs.noting.note.Goals as goal
 
 pub returns : goal.returns
-returns c = (rw c.form_of.ensures, (rw c.first_wire.ensures, (rw c.second_wire.ensures, refl)))
+returns c = record { forms_after = rw c.form_of.ensures; firsts_after = rw c.first_wire.ensures; seconds_after = rw c.second_wire.ensures; places_after = refl }

@@ -6,7 +6,9 @@ use borrow.Author.Rules.{rules}
 use Rattle.writer.proofs.noting.note_all.Goals as goal
 
 pub note_steps-requires : goal.note_steps-requires
-note_steps-requires c = (sym c.read_header.ensures ∙ ap header_read c.in-Width.is, (c.requires.kept, c.requires.rows_value))
+note_steps-requires c = record { circuit_value = sym c.read_header.ensures ∙ ap header_read c.in-Width.is; kept = c.requires.kept; rows_value = c.requires.rows_value }
 
 pub returns-in-Refused : goal.returns-in-Refused
-returns-in-Refused c = header_refused (sym c.read_header.ensures ∙ ap header_read c.in-Refused.is)
+returns-in-Refused c =
+    let h = header_refused (sym c.read_header.ensures ∙ ap header_read c.in-Refused.is) in
+    record { result_value = h.0; notes = h.1.0; rows_after = h.1.1 }

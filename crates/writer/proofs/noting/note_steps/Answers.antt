@@ -18,29 +18,31 @@ pub overflow_sub-index : goal.overflow_sub-index
 overflow_sub-index c = c.loop-progress.invariant.2.few
 
 pub returns-in-End : goal.returns-in-End
-returns-in-End c = let told = turn _ _ _ _ _ _ _ c.in-End.is c.take_step.ensures in
+returns-in-End c = let told = turn _ _ _ _ _ _ _ c.in-End.is (c.take_step.ensures.result_value, c.take_step.ensures.uses_after) in
     let g = c.loop-progress.invariant.2 in
-    (c.close.ensures ∙ noting_told _ _ g c.requires.circuit_value told, kept_all _ _ g c.requires.circuit_value _ told)
+    let kept = kept_all _ _ g c.requires.circuit_value _ told in
+    record { result_value = c.close.ensures ∙ noting_told _ _ g c.requires.circuit_value told; notes = kept.0; rows_after = kept.1 }
 
 pub returns-in-Refused : goal.returns-in-Refused
-returns-in-Refused c = let told = turn _ _ _ _ _ _ _ c.in-Refused.is c.take_step.ensures in
+returns-in-Refused c = let told = turn _ _ _ _ _ _ _ c.in-Refused.is (c.take_step.ensures.result_value, c.take_step.ensures.uses_after) in
     let g = c.loop-progress.invariant.2 in
-    (noting_told _ _ g c.requires.circuit_value told, kept_refused _ _ g c.requires.circuit_value told refl)
+    let kept = kept_refused _ _ g c.requires.circuit_value told refl in
+    record { result_value = noting_told _ _ g c.requires.circuit_value told; notes = kept.0; rows_after = kept.1 }
 
 pub note-requires : goal.note-requires
-note-requires c = let taken = turn _ _ _ _ _ _ _ c.in-Step.is c.take_step.ensures in
+note-requires c = let taken = turn _ _ _ _ _ _ _ c.in-Step.is (c.take_step.ensures.result_value, c.take_step.ensures.uses_after) in
     let g = c.loop-progress.invariant.2 in
     (noting_below _ _ g taken, noting_near _ _ g taken)
 
 pub overflow_add-index : goal.overflow_add-index
-overflow_add-index c = omega (arith, noting_below _ _ c.loop-progress.invariant.2 (turn _ _ _ _ _ _ _ c.in-Step.is c.take_step.ensures))
+overflow_add-index c = omega (arith, noting_below _ _ c.loop-progress.invariant.2 (turn _ _ _ _ _ _ _ c.in-Step.is (c.take_step.ensures.result_value, c.take_step.ensures.uses_after)))
 
 pub loop-progress-smaller : goal.loop-progress-smaller
-loop-progress-smaller c = omega (arith, noting_below _ _ c.loop-progress.invariant.2 (turn _ _ _ _ _ _ _ c.in-Step.is c.take_step.ensures))
+loop-progress-smaller c = omega (arith, noting_below _ _ c.loop-progress.invariant.2 (turn _ _ _ _ _ _ _ c.in-Step.is (c.take_step.ensures.result_value, c.take_step.ensures.uses_after)))
 
 pub loop-progress-preserved : goal.loop-progress-preserved
 loop-progress-preserved c = let i = c.loop-progress.invariant in
-    let taken = turn _ _ _ _ _ _ _ c.in-Step.is c.take_step.ensures in (
+    let taken = turn _ _ _ _ _ _ _ c.in-Step.is (c.take_step.ensures.result_value, c.take_step.ensures.uses_after) in (
       c.take_step.auto.progress ∙ i.0,
       c.take_step.auto.uses ∙ i.1,
       noting_on _ _ i.2 taken c.note.ensures.forms_after c.note.ensures.firsts_after c.note.ensures.seconds_after c.note.ensures.places_after c.join_sets.ensures,

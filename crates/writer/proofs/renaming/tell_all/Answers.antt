@@ -14,7 +14,7 @@ pub loop-x-init : goal.loop-x-init
 loop-x-init c = (search rules, refl, λ j l. absurd (not-suc-le-zero l))
 
 pub tell-qubit-requires : goal.tell-qubit-requires
-tell-qubit-requires c = let h = c.loop-x in (search rules, (h.invariant.1, (c.requires, h.invariant.2)))
+tell-qubit-requires c = let h = c.loop-x in record { wire_lt_most_wires = search rules; told_len = h.invariant.1; counts_value = c.requires; by_index = h.invariant.2 }
 
 pub loop-x-preserved : goal.loop-x-preserved
 loop-x-preserved c = let a = c.args in

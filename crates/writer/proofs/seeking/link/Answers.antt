@@ -22,7 +22,7 @@ pub bounds-seconds-index : goal.bounds-seconds-index
 bounds-seconds-index c = omega (arith, c.loop-index.invariant.0, c.requires.instructions_le_most_instructions.0)
 
 pub link_one-requires : goal.link_one-requires
-link_one-requires c = let l = c.loop-index in (c.requires.instructions_le_most_instructions.1 _ (omega (arith, l.invariant.0)), omega (arith, l.invariant.0, c.requires.instructions_le_most_instructions.0))
+link_one-requires c = let l = c.loop-index in record { first_lt_most_wires = c.requires.instructions_le_most_instructions.1 _ (omega (arith, l.invariant.0)); index_lt_most_instructions = omega (arith, l.invariant.0, c.requires.instructions_le_most_instructions.0) }
 
 pub loop-index-preserved : goal.loop-index-preserved
 loop-index-preserved c = let l = c.loop-index in
@@ -36,4 +36,4 @@ loop-index-preserved c = let l = c.loop-index in
     )
 
 pub returns : goal.returns
-returns c = let e : c.loop-index.index ≡ 0 = omega arith in (c.loop-index.invariant.1, λ is forms tab. rw e at (c.loop-index.invariant.4 is forms tab))
+returns c = let e : c.loop-index.index ≡ 0 = omega arith in record { indices_len = c.loop-index.invariant.1; linked = λ is forms tab. rw e at (c.loop-index.invariant.4 is forms tab) }

@@ -3,4 +3,5 @@ use borrow.Author.Rules.{rules}
 use Rattle.writer.proofs.seeking.link_one.Goals as goal
 
 pub returns : goal.returns
-returns c = (c.set_heads.ensures, (rw c.of_wire.ensures, rw c.of_wire-2.ensures))
+returns c =
+    record { indices_after = c.set_heads.ensures; after_firsts_after = rw c.of_wire.ensures; after_seconds_after = rw c.of_wire-2.ensures }

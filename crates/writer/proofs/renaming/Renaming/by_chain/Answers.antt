@@ -21,7 +21,7 @@ bounds-told-x c = omega (arith, c.tell_all-told.ensures.0)
 
 pub qubit_of-requires : goal.qubit_of-requires
 qubit_of-requires c = let told = c.tell_all-told.ensures in
-    (told.1 c.loop-x.x (search rules), c.all_firsts_below-counts.ensures)
+    record { tells = told.1 c.loop-x.x (search rules); counts_value = c.all_firsts_below-counts.ensures }
 
 pub loop-x-preserved : goal.loop-x-preserved
 loop-x-preserved c = let a = c.args in
