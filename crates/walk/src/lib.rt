@@ -1,6 +1,8 @@
 // A walk over a lent circuit or pair list: it hands out one record and its place at a time, and copies nothing. It checks
 // kinds and lengths and nothing else. The functions over `Walk` take it apart and leave the work to functions on the slice
 // and the place, which any caller may use without a walk.
+#![tactic(auto)]
+
 ghost use Rattle.std.specs.Prelude.{◌≡◌};
 ghost use Rattle.records.specs.Records.{record_at, answered};
 ghost use Rattle.walk.specs.Walks.{place_after};
