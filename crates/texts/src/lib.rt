@@ -1,4 +1,6 @@
 // Lines of text for programs to print, put into a lent buffer as bytes are.
+#![tactic(auto)]
+
 pub mod lines;
 pub mod listings;
 pub mod places;

@@ -1,15 +1,10 @@
 -- `texts::lines::put_numbers` meets its contract. The loop's invariant: the numbers passed are written. Assumes nothing.
-use Prim.Native.Nat.{◌+◌, ◌*◌, ◌-◌, ◌≤◌}
-use mathlib.Core.Path.{◌≡◌, refl, ◌∙◌}
-use native.Mathlib.Omega.{arith}
-use borrow.Author.Rules.{rules}
+use Prim.Native.Nat.{◌*◌, ◌-◌, ◌≤◌}
+use mathlib.Core.Path.{◌≡◌}
 use lib.ListN.{length, take}
-use lib.Seq.{take_all}
 use Rattle.writing.specs.Writing.{Written}
-use Rattle.writing.proofs.Rows.{written_none, written_place, written_length, written_call}
 use Rattle.texts.specs.Lines.{spaced}
 use Rattle.texts.specs.Room.{spaced_byte}
-use Rattle.texts.proofs.Spaces.{spaced_next}
 use Rattle.texts.proofs.lines.put_numbers.Given as goal
 
 abbrev pub invariant-loop-i : goal.invariant-loop-i

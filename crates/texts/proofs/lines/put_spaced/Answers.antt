@@ -2,11 +2,7 @@
 use native.Mathlib.Omega.{arith}
 use Rattle.writing.proofs.Decimals.{decimal-length}
 use Rattle.writing.proofs.Rows.{placed_written, written_put}
-use borrow.Author.Rules.{rules}
 use Rattle.texts.proofs.lines.put_spaced.Goals as goal
-
--- LOST slice-aggregate-put-bytes
-slice-aggregate-put-bytes c = search rules
 
 pub returns : goal.returns
 returns c = written_put (placed_written c.put_bytes-to.ensures 1 (omega arith) (omega arith))

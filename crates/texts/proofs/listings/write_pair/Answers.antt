@@ -1,14 +1,7 @@
 -- `texts::listings::write_pair` meets its contract: the parts of the line are put one after the other. Assumes nothing.
 use Rattle.texts.proofs.ListingLines.{pair_whole}
 use native.Mathlib.Omega.{arith}
-use borrow.Author.Rules.{rules}
 use Rattle.texts.proofs.listings.write_pair.Goals as goal
-
--- LOST slice-aggregate-put-bytes
-slice-aggregate-put-bytes c = search rules
-
--- LOST slice-aggregate-put-bytes-2
-slice-aggregate-put-bytes-2 c = search rules
 
 pub returns : goal.returns
 returns c = pair_whole c.args.lender.0 c.args.taker.0 (omega arith) (omega arith) _ c.requires

@@ -1,16 +1,6 @@
 -- `texts::refusals::write_refusal` meets its contract: the parts of the line are put one after the other. Assumes nothing.
 use Rattle.texts.proofs.Whole.{refusal_whole}
-use borrow.Author.Rules.{rules}
 use Rattle.texts.proofs.refusals.write_refusal.Goals as goal
-
--- LOST slice-aggregate-put-bytes
-slice-aggregate-put-bytes c = search rules
-
--- LOST slice-aggregate-put-bytes-2
-slice-aggregate-put-bytes-2 c = search rules
-
--- LOST slice-aggregate-put-bytes-3
-slice-aggregate-put-bytes-3 c = search rules
 
 pub returns : goal.returns
 returns c = refusal_whole c.args.number c.args.place c.ranges.number.fits c.ranges.place.fits _ c.requires
