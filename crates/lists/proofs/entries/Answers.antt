@@ -9,11 +9,11 @@ use Rattle.lists.proofs.entries.Goals as goal
 
 pub returns-then-list-lt-MOST : goal.returns-then-list-lt-MOST
 returns-then-list-lt-MOST c = let pairs = c.args.list.pairs in
-    let held : length pairs ≡ most_pairs = sym (length-map pairs _) ∙ c.well_formed.0.1.1.0.1.0.1 in
+    let held : length pairs ≡ most_pairs = c.well_formed.0.1.1.0.1.0.1 in
     (omega arith, omega arith, refl)
 
 pub returns-else-list-lt-MOST : goal.returns-else-list-lt-MOST
 returns-else-list-lt-MOST c = let list = c.args.list in
     let pairs = list.pairs in
-    let held : length pairs ≡ most_pairs = sym (length-map pairs _) ∙ c.well_formed.0.1.1.0.1.0.1 in
+    let held : length pairs ≡ most_pairs = c.well_formed.0.1.1.0.1.0.1 in
     (omega arith, omega arith, ap (map numbers_of) (take_all most_pairs pairs (omega arith) ∙ sym (take_all list.length pairs (omega arith))))
