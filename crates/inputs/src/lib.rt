@@ -1,31 +1,48 @@
-// Bytes read from an open file or pipe into a lent buffer.
-ghost use Rattle.std.specs.Prelude.{◌≤◌, length};
+// Bytes read into a lent buffer, and what to say of a file or a pipe that cannot be read or written.
+#![tactic(auto)]
 
-// How many bytes were read, and whether all could be.
+mod reason;
+
+ghost use Rattle.std.specs.Prelude.{◌<◌, ◌≤◌, length, take, OnOk};
+ghost use Rattle.std.specs.Io.KnownBytes.{Consumes, IsAtEnd};
+
+pub use reason::Reason;
+use std::io;
+use std::io::Read;
+
+// How many bytes were read, and whether all could be, or why not.
 #[derive(Clone, Copy)]
 pub struct Input {
     pub count: usize,
-    pub whole: bool,
+    pub whole: io::Result<()>,
 }
 
-// Reads until the buffer is full or the input ends. No contract can say which bytes come.
-pub fn fill(descriptor: i32, buffer: &mut [u8]) -> Input
-    ensures { result.count ≤ length buffer.new }
+// Reads until the buffer is full or the input ends.
+pub fn fill<R: Read>(reader: &mut R, buffer: &mut [u8]) -> Input
+    ensures within { result.count ≤ length buffer.new }
+    ensures bytes { Consumes (R.remaining reader.old) (R.remaining reader.new) (take result.count buffer.new) }
+    ensures whole { OnOk result.whole (result.count < length buffer.new → IsAtEnd (R.remaining reader.new)) }
 {
     let mut count = 0;
     while count < buffer.len() {
-        let got = libc::read(descriptor, &mut buffer[count..]);
-        if got < 0 {
-            return Input {
-                count,
-                whole: false,
-            };
+        match reader.read(&mut buffer[count..]) {
+            Ok(0) => {
+                return Input {
+                    count,
+                    whole: Ok(()),
+                };
+            }
+            Ok(more) => count += more,
+            Err(e) => {
+                return Input {
+                    count,
+                    whole: Err(e),
+                };
+            }
         }
-        let more = io::count(got, &buffer[count..]);
-        if more == 0 {
-            return Input { count, whole: true };
-        }
-        count += more;
     }
-    Input { count, whole: true }
+    Input {
+        count,
+        whole: Ok(()),
+    }
 }

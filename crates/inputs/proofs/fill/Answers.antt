@@ -1,56 +1,36 @@
--- `inputs::fill` is safe and ends, and its count is within the buffer. The loop's invariant: the buffer keeps its length, and the
--- count is within it. The measure is the room left. Assumes nothing.
-use Prim.Native.Nat.{◌-◌, ◌≤◌}
-use mathlib.Core.Path.{◌≡◌, refl}
-use native.Mathlib.Omega.{arith}
-use lib.ListN.{length}
-use borrow.Author.Rules.{rules}
+-- `inputs::fill` meets its contract: each read goes on behind what was read before. Assumes nothing.
+use Rattle.std.proofs.Common.{◌≡◌, ℕ, ◌+◌, ◌-◌, ◌≤◌, List, ◌++◌, rules, arith, length, take, slice_range, sym, ap, ◌∙◌, subst, le_refl, drop_at, length-take-le}
+use Rattle.std.proofs.lemmas.Slice.{take-put_mid_below}
+use Rattle.std.specs.Io.KnownBytes.{Consumes}
+use Rattle.std.proofs.KnownBytes.{Consumes-trans}
+use borrow.Rule.Slice.PartMut.{put_mid, post_of}
+use lib.Seq.{take-add, take-append-le}
 use Rattle.inputs.proofs.fill.Goals as goal
 
-pub loop-count-init : goal.loop-count-init
-loop-count-init c = (refl, omega arith)
+-- a front that stays, and what stands behind it
+front_and_next : (a b : ℕ) (old new : List ℕ) → a ≤ b → take a new ≡ take a old → take a old ++ slice_range new a b ≡ take b new
+front_and_next a b old new h front =
+    let same : a + (b - a) ≡ b = omega arith in
+    ap (λ l. l ++ slice_range new a b) (sym front) ∙ sym (take-add a (b - a) new) ∙ ap (λ n. take n new) same
 
-pub slice_bounds-read-count : goal.slice_bounds-read-count
-slice_bounds-read-count c = omega arith
-
-pub slice_bounds-read-start : goal.slice_bounds-read-start
-slice_bounds-read-start c = omega arith
-
-pub slice_bounds-read-end : goal.slice_bounds-read-end
-slice_bounds-read-end c = omega arith
-
-pub shape_of-buffer-then-got-lt0 : goal.shape_of-buffer-then-got-lt0
-shape_of-buffer-then-got-lt0 c = omega arith
-
-pub returns-then-got-lt0 : goal.returns-then-got-lt0
-returns-then-got-lt0 c = omega arith
-
-pub slice_bounds-count-count : goal.slice_bounds-count-count
-slice_bounds-count-count c = omega arith
-
-pub slice_bounds-count-start : goal.slice_bounds-count-start
-slice_bounds-count-start c = omega arith
-
-pub slice_bounds-count-end : goal.slice_bounds-count-end
-slice_bounds-count-end c = omega arith
-
-pub shape_of-buffer-then-more-eq0 : goal.shape_of-buffer-then-more-eq0
-shape_of-buffer-then-more-eq0 c = omega arith
-
-pub returns-then-more-eq0 : goal.returns-then-more-eq0
-returns-then-more-eq0 c = omega arith
-
-pub overflow_add-count : goal.overflow_add-count
-overflow_add-count c = omega arith
-
-pub loop-count-smaller : goal.loop-count-smaller
-loop-count-smaller c = omega arith
+-- the front of a part that was written, found in the whole
+next_written : (a k n : ℕ) (xs ys : List ℕ) → a ≤ length xs → n ≤ length ys → slice_range (put_mid a k xs ys) a (a + n) ≡ take n ys
+next_written a k n xs ys within fits =
+    let same : (a + n) - a ≡ n = omega arith in
+    let after = post_of a k xs in
+    ap (take ((a + n) - a)) (drop_at (take a xs) (ys ++ after) a (length-take-le a xs within))
+    ∙ ap (λ m. take m (ys ++ after)) same
+    ∙ take-append-le n ys after fits
 
 pub loop-count-preserved : goal.loop-count-preserved
-loop-count-preserved c = (omega arith, omega arith)
-
-pub shape_of-buffer : goal.shape_of-buffer
-shape_of-buffer c = omega arith
-
-pub returns : goal.returns
-returns c = omega arith
+loop-count-preserved g c =
+    let from = c.loop-count.count in
+    let room = length c.loop-count.buffer - from in
+    let within = c.loop-count.invariant.1 in
+    let next = next_written from room c.in-Ok.more c.loop-count.buffer c.read.new.buf within c.in-Ok.ensures.bound.0 in
+    let front = take-put_mid_below _ _ _ _ _ (le_refl _) within in
+    let joined = front_and_next from (from + c.in-Ok.more) c.loop-count.buffer (put_mid from room c.loop-count.buffer c.read.new.buf) (omega arith) front in (
+      search rules,
+      search rules,
+      subst (Consumes _ _) (ap (λ l. take from c.loop-count.buffer ++ l) (sym next) ∙ joined) (Consumes-trans _ _ _ _ _ c.loop-count.invariant.2 c.in-Ok.ensures.bytes.0),
+    )
