@@ -8,13 +8,11 @@ use Rattle.cases.proofs.show_gates.Goals as goal
 
 -- LOST slice-aggregate-put-bytes
 slice-aggregate-put-bytes c = search rules
-
 -- LOST slice-aggregate-repeat
 slice-aggregate-repeat c = search rules
 
 pub repeat-last-requires : goal.repeat-last-requires
 repeat-last-requires c = omega (arith, placed_length c.put_bytes-begin.ensures, placed_within c.put_bytes-begin.ensures (omega arith))
-
 -- LOST slice-aggregate-put-bytes-2
 slice-aggregate-put-bytes-2 c = search rules
 
