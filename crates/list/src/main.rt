@@ -1,19 +1,24 @@
 // Reads a static circuit on standard input and prints its listing: how many wires, qubits, pairs and trials there are, then the
 // pairs that are chosen greedily; of a circuit that is refused only the refusal.
-ghost use Rattle.std.specs.Prelude.{◌≡◌, ◌≤◌, length, take};
+#![tactic(auto)]
+
+ghost use Rattle.std.specs.Prelude.{◌≡◌, ◌<◌, ◌≤◌, length, take, OnOk};
+ghost use Rattle.std.specs.Io.KnownBytes.{Consumes, IsAtEnd};
 ghost use Rattle.circuits.specs.Limits.{deciding_bytes};
 ghost use Rattle.listing.specs.Printing.{printed, longest_listing};
 
 use circuits::Circuit;
-use inputs::Input;
-use libc::{STDIN_FILENO, STDOUT_FILENO};
+use inputs::{Input, Reason};
+use std::io::Read;
 
 // Reads as many bytes as decide, or more: none behind them changes what is printed.
-fn read_circuit(buffer: &mut [u8]) -> Input
+fn read_circuit<R: Read>(reader: &mut R, buffer: &mut [u8]) -> Input
     requires { deciding_bytes ≤ length buffer.old }
-    ensures { result.count ≤ length buffer.new }
+    ensures within { result.count ≤ length buffer.new }
+    ensures bytes { Consumes (R.remaining reader.old) (R.remaining reader.new) (take result.count buffer.new) }
+    ensures whole { OnOk result.whole (result.count < length buffer.new → IsAtEnd (R.remaining reader.new)) }
 {
-    inputs::fill(STDIN_FILENO, buffer)
+    inputs::fill(reader, buffer)
 }
 
 // The listing of a circuit, or its refusal, at the front of a buffer that has room for any.
@@ -24,17 +29,17 @@ fn listing_of(lines: &mut [u8], circuit: &[u8]) -> usize
     listing::put_listing(lines, 0, circuit)
 }
 
-fn main() {
+fn main(rt: HostRuntime) {
     let mut buffer = [0u8; Circuit::DECIDING];
-    let input = read_circuit(&mut buffer);
+    let input = read_circuit(&mut rt.stdin(), &mut buffer);
     let count = input.count;
-    if !input.whole {
-        os::fail(b"standard input");
+    if let Err(e) = input.whole {
+        let _ = eprintln!(rt; "standard input: {}", Reason(e));
         return;
     }
     let mut lines = [0u8; listing::LONGEST];
     let length = listing_of(&mut lines, &buffer[..count]);
-    if !io::write_all(STDOUT_FILENO, &lines[..length]) {
-        os::fail(b"standard output");
+    if let Err(e) = rt.write_all(&lines[..length]) {
+        let _ = eprintln!(rt; "standard output: {}", Reason(e));
     }
 }

@@ -1,6 +1,9 @@
 // Prints the records of a circuit or a pair list on standard input, one a line, as docs/SHOW.md says. The input may be of any
 // length: it is read in pieces, and a record that is cut at a piece's end is kept for the next one.
-use libc::{STDIN_FILENO, STDOUT_FILENO};
+#![tactic(auto)]
+
+use inputs::Reason;
+use std::io::Read;
 
 // How many bytes are held at a time.
 const BUFFER: usize = 4096;
@@ -34,27 +37,35 @@ struct Kept {
 }
 
 // Prints what stands at a place of a piece that begins at `start` of the input; `last` says that no piece follows.
-fn print_at(piece: &[u8], at: usize, start: usize, last: bool) -> Printed {
+fn print_at(
+    rt: &(impl Print + Eprint),
+    piece: &[u8],
+    at: usize,
+    start: usize,
+    last: bool,
+) -> Printed {
     let mut line = [0u8; LINE];
-    let place = std::num::wrapping_add_usize(start, at);
+    let place = start.wrapping_add(at);
     let length = texts::put_at(&mut line, 0, piece, at, place, last);
     if length == 0 {
         return Printed::Nothing;
     }
-    if io::write_all(STDOUT_FILENO, &line[..length]) {
-        return Printed::Line;
+    match rt.write_all(&line[..length]) {
+        Ok(()) => Printed::Line,
+        Err(e) => {
+            let _ = eprintln!(rt; "standard output: {}", Reason(e));
+            Printed::Failed
+        }
     }
-    os::fail(b"standard output");
-    Printed::Failed
 }
 
 // Prints the records of a piece, and after them a refusal. A record has a byte at least, so there are not more of them than
 // bytes.
-fn show(piece: &[u8], start: usize, last: bool) -> Shown {
+fn show(rt: &(impl Print + Eprint), piece: &[u8], start: usize, last: bool) -> Shown {
     let mut at = 0;
     let mut left = piece.len();
     while left > 0 {
-        match print_at(piece, at, start, last) {
+        match print_at(rt, piece, at, start, last) {
             Printed::Line => {}
             Printed::Nothing => {
                 return Shown { at, on: !last };
@@ -89,7 +100,12 @@ fn keep(buffer: &mut [u8], from: usize, end: usize) -> usize {
 }
 
 // Reads once behind what is kept, prints, and keeps what is cut.
-fn show_more(buffer: &mut [u8], kept: Kept) -> Kept {
+fn show_more<R: Read>(
+    rt: &(impl Print + Eprint),
+    reader: &mut R,
+    buffer: &mut [u8],
+    kept: Kept,
+) -> Kept {
     let count = kept.count;
     let stop = Kept {
         count: 0,
@@ -99,33 +115,35 @@ fn show_more(buffer: &mut [u8], kept: Kept) -> Kept {
     if buffer.len() < count {
         return stop;
     }
-    let got = libc::read(STDIN_FILENO, &mut buffer[count..]);
-    if got < 0 {
-        os::fail(b"standard input");
-        return stop;
-    }
-    let more = io::count(got, &buffer[count..]);
+    let more = match reader.read(&mut buffer[count..]) {
+        Ok(more) => more,
+        Err(e) => {
+            let _ = eprintln!(rt; "standard input: {}", Reason(e));
+            return stop;
+        }
+    };
     let end = count + more;
     let start = kept.place;
-    let shown = show(&buffer[..end], start, more == 0);
+    let shown = show(rt, &buffer[..end], start, more == 0);
     Kept {
         count: keep(buffer, shown.at, end),
-        place: std::num::wrapping_add_usize(start, shown.at),
+        place: start.wrapping_add(shown.at),
         on: shown.on,
     }
 }
 
-// A proved loop has to end, and nothing says that an input does: the turns are counted down, from a number that no run uses up.
-fn main() {
+// A proved loop has to end, and nothing says that an input does: the turns are counted, up to a number that no run reaches.
+fn main(rt: HostRuntime) {
     let mut buffer = [0u8; BUFFER];
     let mut kept = Kept {
         count: 0,
         place: 0,
         on: true,
     };
-    let mut turns = u64::MAX;
-    while turns > 0 && kept.on {
-        kept = show_more(&mut buffer, kept);
-        turns -= 1;
+    for _ in 0..u64::MAX {
+        kept = show_more(&rt, &mut rt.stdin(), &mut buffer, kept);
+        if !kept.on {
+            break;
+        }
     }
 }

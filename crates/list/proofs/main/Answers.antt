@@ -13,6 +13,5 @@ slice_bounds-listing_of-end-2 c = sym (length-take-le _ _ (omega arith))
 
 pub slice_bounds-write_all-end : goal.slice_bounds-write_all-end
 slice_bounds-write_all-end c = sym (length-take-le _ _ (omega arith))
-
 -- LOST slice-aggregate-fail-2
 slice-aggregate-fail-2 c = search rules

@@ -8,6 +8,5 @@ slice_bounds-line-end c = placed_within c.put_at-length.ensures (omega arith)
 
 pub slice_bounds-write_all-end : goal.slice_bounds-write_all-end
 slice_bounds-write_all-end c = placed_front c.put_at-length.ensures (omega arith)
-
 -- LOST slice-aggregate-fail
 slice-aggregate-fail c = search rules
