@@ -1,6 +1,8 @@
 // Compiles a static circuit: its file, the output file and, where the pairs are not to be chosen greedily, a pair file. The output
 // file is written only where all is accepted; one line says what was written, or the refusal.
-ghost use Rattle.std.specs.Prelude.{◌≡◌, ◌≤◌, length, take};
+#![tactic(auto)]
+
+ghost use Rattle.std.specs.Prelude.{◌≡◌, ◌≤◌, length, take, IfOk};
 ghost use Rattle.circuits.specs.Limits.{most_wires, deciding_bytes};
 ghost use Rattle.table.specs.Starting.{started};
 ghost use Rattle.pairs.specs.Listing.{deciding_list_bytes};
@@ -9,8 +11,10 @@ ghost use Rattle.texts.specs.Listings.{longest_counts};
 ghost use Rattle.compile.specs.Running.{chosen_list, wires_told, answer_line};
 
 use circuits::Circuit;
-use inputs::Input;
-use libc::{STDERR_FILENO, STDOUT_FILENO};
+use inputs::{Input, Reason};
+use std::env::{Env, FillError};
+use std::rt::Files;
+use std::{fs, io, str};
 use writer::Compiling;
 
 // The arguments; the program's own name is the one before them.
@@ -20,87 +24,102 @@ const OUTPUT: usize = 2;
 
 const PAIRS: usize = 3;
 
-// Puts the path that an argument is into a buffer, or says why it cannot.
-fn path_of(argument: usize, path: &mut [u8]) -> Input
-    ensures { result.count ≤ length path.new }
+// Room for any path.
+const PATH: usize = 4096;
+
+// The system's number for a path that is longer.
+const TOO_LONG: i32 = 36;
+
+// Whether there is such an argument.
+fn is_given(rt: &impl Env, argument: usize) -> bool {
+    !matches!(rt.arg(argument, &mut [0u8; 0]), Err(FillError::NotPresent))
+}
+
+// The path that an argument is, in a lent buffer, or why there is none: paths are text here.
+fn path_of<'a>(rt: &impl Env, argument: usize, path: &'a mut [u8]) -> io::Result<&'a str>
+    ensures { IfOk result (λ name. length name.now ≤ length path.old) }
 {
-    let count = os::arg(argument, path);
-    if os::errno() != 0 {
-        os::fail(b"argument");
-        return Input {
-            count,
-            whole: false,
-        };
+    match rt.arg(argument, path) {
+        Ok(count) => match str::from_utf8(&path[..count]) {
+            Ok(name) => Ok(name),
+            Err(_) => Err(io::Error::from(io::ErrorKind::InvalidFilename)),
+        },
+        Err(FillError::TooLong) => Err(io::Error::from_raw_os_error(TOO_LONG)),
+        Err(FillError::NotPresent) => Err(io::Error::from(io::ErrorKind::InvalidInput)),
     }
-    Input { count, whole: true }
 }
 
 // Reads the file that an argument names until the buffer is full or the file ends, or says why it cannot.
-fn read_file(argument: usize, buffer: &mut [u8]) -> Input
+fn read_file(rt: &(impl Env + Files + Eprint), argument: usize, buffer: &mut [u8]) -> Input
     ensures { result.count ≤ length buffer.new }
 {
-    let none = Input {
-        count: 0,
-        whole: false,
+    let mut path = [0u8; PATH];
+    match path_of(rt, argument, &mut path) {
+        Ok(name) => read_named(rt, name, buffer),
+        Err(e) => {
+            let _ = eprintln!(rt; "argument: {}", Reason(e));
+            Input {
+                count: 0,
+                whole: Err(e),
+            }
+        }
+    }
+}
+
+// The same of the file at a path.
+fn read_named(rt: &(impl Files + Eprint), name: &str, buffer: &mut [u8]) -> Input
+    ensures { result.count ≤ length buffer.new }
+{
+    let input = match fs::open(rt, name) {
+        Ok(mut file) => inputs::fill(&mut file, buffer),
+        Err(e) => Input {
+            count: 0,
+            whole: Err(e),
+        },
     };
-    let mut path = io::buffer();
-    let named = path_of(argument, &mut path);
-    let length = named.count;
-    if !named.whole {
-        return none;
+    if let Err(e) = input.whole {
+        let _ = eprintln!(rt; "{name}: {}", Reason(e));
     }
-    let descriptor = os::open_read(&path[..length]);
-    if descriptor < 0 {
-        os::fail(&path[..length]);
-        return none;
-    }
-    let input = inputs::fill(descriptor, buffer);
-    if !input.whole {
-        os::fail(&path[..length]);
-    }
-    libc::close(descriptor);
     input
 }
 
 // Reads as many bytes of the circuit as decide, or more: none behind them changes what is compiled.
-fn read_circuit(buffer: &mut [u8]) -> Input
+fn read_circuit(rt: &(impl Env + Files + Eprint), buffer: &mut [u8]) -> Input
     requires { deciding_bytes ≤ length buffer.old }
     ensures { result.count ≤ length buffer.new }
 {
-    read_file(CIRCUIT, buffer)
+    read_file(rt, CIRCUIT, buffer)
 }
 
 // The same of the pair list.
-fn read_list(buffer: &mut [u8]) -> Input
+fn read_list(rt: &(impl Env + Files + Eprint), buffer: &mut [u8]) -> Input
     requires { deciding_list_bytes ≤ length buffer.old }
     ensures { result.count ≤ length buffer.new }
 {
-    read_file(PAIRS, buffer)
+    read_file(rt, PAIRS, buffer)
 }
 
 // Writes bytes to the file that an argument names, or says why it cannot.
-fn write_file(argument: usize, bytes: &[u8]) -> bool {
-    let mut path = io::buffer();
-    let named = path_of(argument, &mut path);
-    let length = named.count;
-    if !named.whole {
-        return false;
+fn write_file(rt: &(impl Env + Files + Eprint), argument: usize, bytes: &[u8]) -> bool {
+    let mut path = [0u8; PATH];
+    match path_of(rt, argument, &mut path) {
+        Ok(name) => write_named(rt, name, bytes),
+        Err(e) => {
+            let _ = eprintln!(rt; "argument: {}", Reason(e));
+            false
+        }
     }
-    let descriptor = os::open_overwrite(&path[..length]);
-    if descriptor < 0 {
-        os::fail(&path[..length]);
-        return false;
+}
+
+// The same to the file at a path.
+fn write_named(rt: &(impl Files + Eprint), name: &str, bytes: &[u8]) -> bool {
+    match fs::write(rt, name, bytes) {
+        Ok(()) => true,
+        Err(e) => {
+            let _ = eprintln!(rt; "{name}: {}", Reason(e));
+            false
+        }
     }
-    if !io::write_all(descriptor, bytes) {
-        os::fail(&path[..length]);
-        libc::close(descriptor);
-        return false;
-    }
-    if libc::close(descriptor) < 0 {
-        os::fail(&path[..length]);
-        return false;
-    }
-    true
 }
 
 // The records of the pairs that are chosen greedily from a circuit's table, at the front of a buffer that has room for any list.
@@ -130,13 +149,13 @@ fn line_of(line: &mut [u8], answer: Compiling) -> usize
 }
 
 // Prints the line of an answer.
-fn print_answer(answer: Compiling)
+fn print_answer(rt: &(impl Print + Eprint), answer: Compiling)
     requires { wires_told (compiling_of answer) ≤ most_wires }
 {
     let mut line = [0u8; texts::LONGEST_COUNTS];
     let length = line_of(&mut line, answer);
-    if !io::write_all(STDOUT_FILENO, &line[..length]) {
-        os::fail(b"standard output");
+    if let Err(e) = rt.write_all(&line[..length]) {
+        let _ = eprintln!(rt; "standard output: {}", Reason(e));
     }
 }
 
@@ -149,50 +168,45 @@ fn compile_into(circuit: &[u8], list: &[u8], out: &mut [u8]) -> Compiling
 }
 
 // Compiles a circuit with a pair list, and writes the output file where they are accepted.
-fn compile(circuit: &[u8], list: &[u8]) {
+fn compile(rt: &(impl Env + Files + Print + Eprint), circuit: &[u8], list: &[u8]) {
     let mut out = [0u8; Circuit::DECIDING];
     let answer = compile_into(circuit, list, &mut out);
     match answer {
         Compiling::Done(counts) => {
             let bytes = counts.bytes;
-            if write_file(OUTPUT, &out[..bytes]) {
-                print_answer(answer);
+            if write_file(rt, OUTPUT, &out[..bytes]) {
+                print_answer(rt, answer);
             }
         }
-        Compiling::Refused(_) => print_answer(answer),
+        Compiling::Refused(_) => print_answer(rt, answer),
     }
 }
 
 // Reads the files that are given, and compiles.
-fn run(listed: bool) {
+fn run(rt: &(impl Env + Files + Print + Eprint), listed: bool) {
     let mut circuit = [0u8; Circuit::DECIDING];
-    let input = read_circuit(&mut circuit);
+    let input = read_circuit(rt, &mut circuit);
     let length = input.count;
-    if !input.whole {
+    if input.whole.is_err() {
         return;
     }
     let mut list = [0u8; lists::DECIDING];
     if !listed {
         let chosen = choose_list(&circuit[..length], &mut list);
-        compile(&circuit[..length], &list[..chosen]);
+        compile(rt, &circuit[..length], &list[..chosen]);
         return;
     }
-    let pairs = read_list(&mut list);
+    let pairs = read_list(rt, &mut list);
     let read = pairs.count;
-    if pairs.whole {
-        compile(&circuit[..length], &list[..read]);
+    if pairs.whole.is_ok() {
+        compile(rt, &circuit[..length], &list[..read]);
     }
 }
 
-fn main() {
-    let count = os::arg_count();
-    if count == PAIRS {
-        run(false);
+fn main(rt: HostRuntime) {
+    if is_given(&rt, OUTPUT) && !is_given(&rt, PAIRS + 1) {
+        run(&rt, is_given(&rt, PAIRS));
         return;
     }
-    if count == PAIRS + 1 {
-        run(true);
-        return;
-    }
-    io::write_all(STDERR_FILENO, b"usage: compile CIRCUIT OUTPUT [PAIRS]\n");
+    let _ = eprintln!(rt; "usage: compile CIRCUIT OUTPUT [PAIRS]");
 }

@@ -7,6 +7,5 @@ use Rattle.compile.proofs.print_answer.Goals as goal
 
 pub slice_bounds-write_all-end : goal.slice_bounds-write_all-end
 slice_bounds-write_all-end c = sym (length-take-le _ _ (omega arith))
-
 -- LOST slice-aggregate-fail
 slice-aggregate-fail c = search rules
