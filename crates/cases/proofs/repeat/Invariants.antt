@@ -1,10 +1,7 @@
 -- `cases::repeat` meets its contract. The loop's invariant: the buffer keeps its length, and the place stays inside. Assumes nothing.
 use Prim.Native.Nat.{◌≤◌, ◌-◌}
-use mathlib.Core.Path.{◌≡◌, refl, ◌∙◌}
-use native.Mathlib.Omega.{arith}
+use mathlib.Core.Path.{◌≡◌}
 use lib.ListN.{length}
-use borrow.Author.Rules.{rules}
-use Rattle.writing.proofs.Puts.{placed_length, placed_within}
 use Rattle.cases.proofs.repeat.Given as goal
 
 abbrev pub invariant-loop-i : goal.invariant-loop-i
