@@ -1,4 +1,6 @@
 // Choosers: pairs chosen from the table alone, never from the circuit.
+#![tactic(auto)]
+
 pub mod answers;
 mod choosing;
 

@@ -7,7 +7,6 @@ use Rattle.circuits.specs.Stepping.{found_of}
 use Rattle.circuits.specs.Sketching.{glimpsed}
 use Rattle.circuits.specs.Reading.{header_read, reading_of}
 use Rattle.circuits.specs.Rewriting.{rewriting_of}
-use Rattle.circuits.specs.declared.judging.Fault.{Fault}
 use Rattle.circuits.specs.declared.judging.Verdict.{Verdict}
 use Rattle.circuits.specs.declared.judging.Verdict.TheVariants as verdict
 use Rattle.circuits.specs.declared.stepping.Found.{Found}

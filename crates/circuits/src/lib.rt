@@ -1,4 +1,6 @@
 // Static circuits: the reader, which answers any byte string, and the records of a valid circuit written again.
+#![tactic(auto)]
+
 pub mod circuit;
 pub mod judging;
 pub mod lines;

@@ -1,4 +1,6 @@
 // A chooser's list as the 60 records of a pair list.
+#![tactic(auto)]
+
 ghost use Rattle.std.specs.Prelude.{◌≡◌, ◌≤◌, length};
 ghost use Rattle.writing.specs.Writing.{Placed, Written};
 ghost use Rattle.choosers.specs.Results.{most_pairs, first_pairs, pairs_of};

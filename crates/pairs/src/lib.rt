@@ -1,4 +1,6 @@
 // A pair list read against a table: its refusal, or the table after all pairs and the lender of each wire.
+#![tactic(auto)]
+
 pub mod lending;
 mod listing;
 

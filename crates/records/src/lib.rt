@@ -1,4 +1,6 @@
 // Circuit records: their kinds, what stands at a place of a circuit or a pair list, and their bytes.
+#![tactic(auto)]
+
 pub mod answers;
 pub mod encoding;
 pub mod instructions;

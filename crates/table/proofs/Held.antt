@@ -1,7 +1,7 @@
 -- What holding a table's rows tells: how many they are, and that each fits. Only this file knows the machine's width of a row.
 -- Assumes nothing.
 use mathlib.Core.Path.{◌≡◌}
-use mathlib.Core.List.{List, map}
+use mathlib.Core.List.{List}
 use Prim.Native.Nat.{ℕ, ◌^◌, ◌<◌}
 use lib.ListN.{length, get_or}
 use mir.Syntax.{w32}

@@ -1,4 +1,6 @@
 // The table of possible reuse pairs: which wire may lend to which, what an offer makes of it, and its bytes.
+#![tactic(auto)]
+
 pub mod answers;
 mod clean_offers;
 mod counting;

@@ -1,5 +1,7 @@
 // The library that C and Rust link: numbers and byte slices only. Each call returns one word: the refusal's number times 2^32
 // plus its place, or, when done, a value below 2^32.
+#![tactic(auto)]
+
 mod choosing;
 mod compiling;
 mod tables;

@@ -1,5 +1,7 @@
 // The compiler and the dynamic circuit: chains of wires, the qubit of each wire, and the instructions in the one order of
 // document 01.
+#![tactic(auto)]
+
 mod chaining;
 mod choosing;
 mod compiling;

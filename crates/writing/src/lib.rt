@@ -1,4 +1,6 @@
 // Bytes and numbers put into a lent buffer. One function stores; every writer of records and texts goes by it.
+#![tactic(auto)]
+
 ghost use Rattle.std.specs.Prelude.{length, ◌+◌, ◌≤◌};
 ghost use Rattle.writing.specs.Writing.{Placed, Wrote};
 ghost use Rattle.writing.specs.Decimals.{decimal};

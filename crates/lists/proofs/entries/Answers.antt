@@ -2,7 +2,7 @@
 use mathlib.Core.Path.{◌≡◌, refl, sym, ap, ◌∙◌}
 use mathlib.Core.List.{map}
 use native.Mathlib.Omega.{arith}
-use lib.ListN.{length, length-map}
+use lib.ListN.{length}
 use lib.Seq.{take_all}
 use Rattle.choosers.specs.Results.{most_pairs, numbers_of}
 use Rattle.lists.proofs.entries.Goals as goal

@@ -1,7 +1,6 @@
 -- `lists::put_list` meets its contract: the records are the front of the array that they are written to. Assumes
 -- nothing.
 use Rattle.writing.proofs.Rows.{written_front, written_front_length}
-use borrow.Author.Rules.{rules}
 use Rattle.lists.proofs.put_list.Goals as goal
 
 pub slice_bounds-put_bytes-end : goal.slice_bounds-put_bytes-end

@@ -1,11 +1,9 @@
 -- `lists::write_list` meets its contract. The loop's invariant: the records of the pairs from here on are still to be
 -- written. Assumes nothing.
-use Prim.Native.Nat.{◌-◌, ◌≤◌}
 use mathlib.Core.Path.{ap}
 use native.Mathlib.Omega.{arith}
-use borrow.Author.Rules.{rules}
-use lib.ListN.{length, drop}
-use Rattle.writing.proofs.Remaining.{Remaining, remaining_start, remaining_placed, remaining_end}
+use lib.ListN.{length}
+use Rattle.writing.proofs.Remaining.{remaining_start, remaining_placed, remaining_end}
 use Rattle.choosers.specs.Results.{first_pairs}
 use Rattle.pairs.specs.Listing.{pairs_bytes}
 use Rattle.choosers.proofs.HandedLists.{size, pair_next, pairs_over}

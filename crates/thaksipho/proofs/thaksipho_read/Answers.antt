@@ -6,7 +6,6 @@ use Rattle.circuits.specs.Reading.{reading_of}
 use Rattle.circuits.specs.declared.circuit.Circuit.{Circuit}
 use Rattle.thaksipho.specs.Words.{word, circuit_value}
 use Rattle.thaksipho.proofs.Fitting.{told_fits, read_fits, refusal_tells}
-use borrow.Author.Rules.{rules}
 use Rattle.thaksipho.proofs.thaksipho_read.Goals as goal
 
 pub overflow_mul-result : goal.overflow_mul-result

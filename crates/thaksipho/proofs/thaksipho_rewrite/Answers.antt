@@ -3,7 +3,6 @@ use mathlib.Core.Path.{sym, ap, ◌∙◌}
 use Rattle.circuits.specs.Rewriting.{rewriting_of}
 use Rattle.thaksipho.specs.Words.{word}
 use Rattle.thaksipho.proofs.Fitting.{told_fits, worded, rewrite_fits, kept}
-use borrow.Author.Rules.{rules}
 use Rattle.thaksipho.proofs.thaksipho_rewrite.Goals as goal
 
 pub returns-in-Done : goal.returns-in-Done

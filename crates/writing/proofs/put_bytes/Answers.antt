@@ -1,6 +1,5 @@
 -- `writing::put_bytes` meets its contract: the two tests say whether there is room. Assumes nothing.
 use native.Mathlib.Omega.{arith}
-use borrow.Author.Rules.{rules}
 use Rattle.writing.proofs.Puts.{no_room, wrote_placed}
 use Rattle.writing.proofs.put_bytes.Goals as goal
 

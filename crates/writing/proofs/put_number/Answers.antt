@@ -1,12 +1,11 @@
 -- `writing::put_number` meets its contract. The loop's invariant: the decimal of what is left, and the digits stored, are the
 -- number's decimal. Assumes nothing.
 use Prim.Native.Nat.{◌-◌}
-use mathlib.Core.Path.{◌≡◌, refl, ◌∙◌}
+use mathlib.Core.Path.{refl, ◌∙◌}
 use native.Mathlib.Omega.{arith}
-use borrow.Author.Rules.{rules}
-use lib.ListN.{length, length-set}
+use lib.ListN.{length-set}
 use Rattle.writing.specs.Decimals.{digit, most_digits}
-use Rattle.writing.proofs.Spelling.{Spelling, spelling_start, spelling_room, spelling_more, spelling_last}
+use Rattle.writing.proofs.Spelling.{spelling_start, spelling_room, spelling_more, spelling_last}
 use Rattle.writing.proofs.put_number.Goals as goal
 
 pub loop-rest-init : goal.loop-rest-init

@@ -1,12 +1,9 @@
 -- `writing::put_number` meets its contract. The loop's invariant: the decimal of what is left, and the digits stored, are the
 -- number's decimal. Assumes nothing.
-use Prim.Native.Nat.{◌-◌}
-use mathlib.Core.Path.{◌≡◌, refl, ◌∙◌}
-use native.Mathlib.Omega.{arith}
-use borrow.Author.Rules.{rules}
-use lib.ListN.{length, length-set}
-use Rattle.writing.specs.Decimals.{digit, most_digits}
-use Rattle.writing.proofs.Spelling.{Spelling, spelling_start, spelling_room, spelling_more, spelling_last}
+use mathlib.Core.Path.{◌≡◌}
+use lib.ListN.{length}
+use Rattle.writing.specs.Decimals.{most_digits}
+use Rattle.writing.proofs.Spelling.{Spelling}
 use Rattle.writing.proofs.put_number.Given as goal
 
 abbrev pub invariant-loop-rest : goal.invariant-loop-rest

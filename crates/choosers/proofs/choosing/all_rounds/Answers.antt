@@ -1,6 +1,6 @@
 -- `choosers::choosing::all_rounds` meets its contract: each round brings one more pair of the whole choice. Assumes nothing.
 use borrow.Author.Rules.{rules}
-use Rattle.choosers.proofs.Underway.{Underway, underway_first, underway_last, room, trials_room, underway_more}
+use Rattle.choosers.proofs.Underway.{underway_first, underway_last, room, trials_room, underway_more}
 use Rattle.choosers.proofs.choosing.all_rounds.Goals as goal
 
 pub loop-marks-init : goal.loop-marks-init

@@ -1,6 +1,5 @@
 -- `choosers::choosing::all_rounds` meets its contract: each round brings one more pair of the whole choice. Assumes nothing.
-use borrow.Author.Rules.{rules}
-use Rattle.choosers.proofs.Underway.{Underway, underway_first, underway_last, room, trials_room, underway_more}
+use Rattle.choosers.proofs.Underway.{Underway}
 use Rattle.choosers.proofs.choosing.all_rounds.Given as goal
 
 abbrev pub invariant-loop-marks : goal.invariant-loop-marks

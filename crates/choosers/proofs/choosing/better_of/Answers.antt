@@ -1,6 +1,5 @@
 -- `choosers::choosing::better_of` meets its contract: its test is the definition's. Assumes nothing.
 use borrow.Author.Tests.{lt-ltb, le-ltb}
-use borrow.Author.Rules.{rules}
 use Rattle.choosers.proofs.choosing.better_of.Goals as goal
 
 pub returns-in-Nothing : goal.returns-in-Nothing

@@ -5,7 +5,6 @@ use Rattle.table.specs.Calls.{tallied}
 use Rattle.choosers.specs.Greedy.{ended}
 use Rattle.choosers.specs.Results.{handed_back}
 use Rattle.choosers.proofs.Settling.{greedy_made, counted_right, count_refused}
-use borrow.Author.Rules.{rules}
 use Rattle.choosers.proofs.choosing.greedy.Goals as goal
 
 pub all_rounds-requires : goal.all_rounds-requires

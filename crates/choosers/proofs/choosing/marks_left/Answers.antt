@@ -1,5 +1,5 @@
 -- `choosers::choosing::marks_left` meets its contract: before turn u, n is the count of what the rows below u keep. Assumes nothing.
-use Prim.Native.Nat.{ℕ, ◌≤◌, ◌-◌}
+use Prim.Native.Nat.{ℕ}
 use mathlib.Core.Path.{◌≡◌, refl}
 use mathlib.Core.Bool.{Bool}
 use mathlib.Core.List.{List}
@@ -11,7 +11,6 @@ use Rattle.bits.specs.Bits.{bit, total}
 use Rattle.bits.proofs.Sums.{tallies_more, tallies_le}
 use Rattle.table.specs.Limits.{most_wires}
 use Rattle.table.specs.Rule.{row_after}
-use Rattle.choosers.specs.Results.{marks_left}
 use Rattle.choosers.proofs.choosing.marks_left.Goals as goal
 
 abbrev kept : List ℕ → ℕ → ℕ → ℕ → ℕ → Bool

@@ -2,7 +2,6 @@
 use Prim.Native.Nat.{◌+◌}
 use mathlib.Core.Path.{sym, ap, ◌∙◌}
 use mathlib.Core.Option.{map}
-use borrow.Author.Rules.{rules}
 use Rattle.basics.specs.Outcome.{beside}
 use Rattle.choosers.specs.Trying.{Tried, best_pair}
 use Rattle.choosers.specs.Results.{best_said, round_after}

@@ -1,18 +1,12 @@
 -- `choosers::choosing::try_pairs` meets its contract: before each turn the lenders below have been tried, and each row has its marks.
 -- Assumes nothing.
 use Prim.Native.Nat.{◌≤◌, ◌-◌}
-use mathlib.Core.Path.{◌≡◌, refl, ap, ◌∙◌}
-use native.Mathlib.Numerals.{add-one}
-use native.Mathlib.Omega.{arith}
-use borrow.Author.Rules.{rules}
-use lib.ListN.{length, length-set}
-use Rattle.bits.proofs.Lists.{length-each}
+use mathlib.Core.Path.{◌≡◌}
+use lib.ListN.{length}
 use Rattle.table.specs.Limits.{most_wires}
 use Rattle.table.specs.Marks.{counts, mark_rows}
-use Rattle.choosers.specs.Trying.{try_takers, try_lenders, score_in}
+use Rattle.choosers.specs.Trying.{try_lenders, score_in}
 use Rattle.choosers.specs.Results.{best_said}
-use Rattle.choosers.proofs.YesPairs.{fits}
-use Rattle.choosers.proofs.Scores.{own_row, set_aside, put_back}
 use Rattle.choosers.proofs.choosing.try_pairs.Given as goal
 
 abbrev pub invariant-loop-lender : goal.invariant-loop-lender

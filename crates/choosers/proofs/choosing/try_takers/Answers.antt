@@ -1,7 +1,5 @@
 -- `choosers::choosing::try_takers` meets its contract: before each turn the takers below have been tried. Assumes nothing.
-use Prim.Native.Nat.{◌≤◌, ◌-◌}
 use mathlib.Core.Path.{◌≡◌, refl, ap, ◌∙◌}
-use mathlib.Core.Logic.{⊎_elim}
 use native.Mathlib.Nat.{le_refl}
 use native.Mathlib.Numerals.{add-one}
 use native.Mathlib.Omega.{arith}

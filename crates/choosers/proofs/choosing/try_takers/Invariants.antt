@@ -1,18 +1,9 @@
 -- `choosers::choosing::try_takers` meets its contract: before each turn the takers below have been tried. Assumes nothing.
 use Prim.Native.Nat.{◌≤◌, ◌-◌}
-use mathlib.Core.Path.{◌≡◌, refl, ap, ◌∙◌}
-use mathlib.Core.Logic.{⊎_elim}
-use native.Mathlib.Nat.{le_refl}
-use native.Mathlib.Numerals.{add-one}
-use native.Mathlib.Omega.{arith}
-use borrow.Author.Rules.{rules}
-use lib.ListN.{length}
-use Rattle.bits.proofs.Lists.{length-each}
+use mathlib.Core.Path.{◌≡◌}
 use Rattle.table.specs.Marks.{counts}
-use Rattle.choosers.specs.Trying.{try_pair, try_takers, score_in}
+use Rattle.choosers.specs.Trying.{try_takers, score_in}
 use Rattle.choosers.specs.Results.{best_said}
-use Rattle.choosers.proofs.YesPairs.{fits}
-use Rattle.choosers.proofs.Scores.{tries_yes, tries_not, tries_none}
 use Rattle.choosers.proofs.choosing.try_takers.Given as goal
 
 abbrev pub invariant-loop-taker : goal.invariant-loop-taker

@@ -1,7 +1,6 @@
 -- `choosers::choosing::yes_marks` meets its contract. Assumes nothing.
 use mathlib.Core.Path.{ap, ◌∙◌}
 use Rattle.basics.specs.Outcome.{beside}
-use borrow.Author.Rules.{rules}
 use Rattle.choosers.proofs.choosing.yes_marks.Goals as goal
 
 pub returns : goal.returns

@@ -1,5 +1,4 @@
 -- `circuits::judging::advance` meets its contract: a reset and a measurement change states, gates do not. Assumes nothing.
-use borrow.Author.Rules.{rules}
 use Rattle.circuits.proofs.judging.advance.Goals as goal
 
 pub returns-in-Reset : goal.returns-in-Reset

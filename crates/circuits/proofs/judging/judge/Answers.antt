@@ -1,5 +1,4 @@
 -- `circuits::judging::judge` meets its contract: each kind of sketch has its own judge. Assumes nothing.
-use borrow.Author.Rules.{rules}
 use Rattle.circuits.proofs.judging.judge.Goals as goal
 
 pub returns-in-Reset : goal.returns-in-Reset

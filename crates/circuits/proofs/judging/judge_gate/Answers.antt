@@ -2,7 +2,6 @@
 use mathlib.Core.Path.{◌∙◌}
 use borrow.Author.Tests.{le-leb, lt-leb}
 use Rattle.circuits.specs.Judging.{judge_gate}
-use borrow.Author.Rules.{rules}
 use Rattle.circuits.proofs.judging.judge_gate.Goals as goal
 
 pub returns-then-lines-line : goal.returns-then-lines-line

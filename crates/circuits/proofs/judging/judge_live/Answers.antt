@@ -2,7 +2,6 @@
 use mathlib.Core.Path.{sym, ◌∙◌}
 use borrow.Author.Tests.{eq-eqb, ne_eqb}
 use Rattle.circuits.specs.Judging.{live}
-use borrow.Author.Rules.{rules}
 use Rattle.circuits.proofs.judging.judge_live.Goals as goal
 
 pub returns-then-state-eq-DONE : goal.returns-then-state-eq-DONE

@@ -3,7 +3,6 @@
 use mathlib.Core.Path.{sym, ap, ◌∙◌}
 use borrow.Author.Tests.{le-leb, lt-leb, eq-eqb, ne_eqb}
 use Rattle.circuits.specs.Judging.{verdict_of, judge_measurement}
-use borrow.Author.Rules.{rules}
 use Rattle.circuits.proofs.judging.judge_measurement.Goals as goal
 
 pub returns-then-bits-bit : goal.returns-then-bits-bit
@@ -27,7 +26,7 @@ returns-in-Fault c = rw (sym (c.judge_gate.ensures c.args.uses.now) ∙ ap verdi
 pub returns-else-state_at-eq-USED : goal.returns-else-state_at-eq-USED
 unfolding judge_measurement
 returns-else-state_at-eq-USED c = rw (
-      sym (c.judge_gate.ensures c.args.uses.now) ∙ ap verdict_of c.in-Passed.is,
-      lt-leb _ _ c.if-bits-bit.false,
-      ne_eqb _ _ (λ e. c.if-state_at-eq-USED.false (c.state_at.ensures ∙ e)),
-    )
+  sym (c.judge_gate.ensures c.args.uses.now) ∙ ap verdict_of c.in-Passed.is,
+  lt-leb _ _ c.if-bits-bit.false,
+  ne_eqb _ _ (λ e. c.if-state_at-eq-USED.false (c.state_at.ensures ∙ e)),
+)

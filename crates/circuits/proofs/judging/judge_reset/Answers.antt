@@ -2,7 +2,6 @@
 use mathlib.Core.Path.{sym, ◌∙◌}
 use borrow.Author.Tests.{le-leb, lt-leb, eq-eqb, ne_eqb}
 use Rattle.circuits.specs.Judging.{judge_reset}
-use borrow.Author.Rules.{rules}
 use Rattle.circuits.proofs.judging.judge_reset.Goals as goal
 
 pub returns-then-lines-line : goal.returns-then-lines-line

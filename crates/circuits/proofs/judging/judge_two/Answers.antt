@@ -2,7 +2,6 @@
 use mathlib.Core.Path.{sym, ap, ◌∙◌}
 use borrow.Author.Tests.{le-leb, lt-leb, eq-eqb, ne_eqb}
 use Rattle.circuits.specs.Judging.{verdict_of, judge_two}
-use borrow.Author.Rules.{rules}
 use Rattle.circuits.proofs.judging.judge_two.Goals as goal
 
 pub returns-then-lines-first : goal.returns-then-lines-first

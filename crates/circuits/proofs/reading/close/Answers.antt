@@ -2,7 +2,6 @@
 use native.Mathlib.Nat.{add-zero}
 use borrow.Author.Tests.{lt-ltb, le-ltb}
 use Rattle.circuits.specs.Reading.{ending}
-use borrow.Author.Rules.{rules}
 use Rattle.circuits.proofs.reading.close.Goals as goal
 
 pub returns-then-line-width : goal.returns-then-line-width

@@ -1,5 +1,4 @@
 -- `circuits::reading::header_from` meets its contract: each answer in turn. Assumes nothing.
-use borrow.Author.Rules.{rules}
 use Rattle.circuits.proofs.reading.header_from.Goals as goal
 
 pub returns-in-StaticWidth : goal.returns-in-StaticWidth

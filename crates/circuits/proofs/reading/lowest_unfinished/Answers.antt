@@ -1,11 +1,8 @@
 -- `circuits::reading::lowest_unfinished` meets its contract. The loop's invariant: the search from here on finds what the whole
 -- search does. Assumes nothing.
 use native.Mathlib.Nat.{sub-zero}
-use Prim.Native.Nat.{◌-◌, ◌≤◌}
-use mathlib.Core.Path.{◌≡◌, sym, ◌∙◌}
+use mathlib.Core.Path.{sym, ◌∙◌}
 use native.Mathlib.Omega.{arith}
-use borrow.Author.Rules.{rules}
-use Rattle.circuits.specs.Judging.{first_unfinished}
 use Rattle.circuits.proofs.Turns.{unfinished_on, unfinished_here, unfinished_none}
 use Rattle.circuits.proofs.reading.lowest_unfinished.Goals as goal
 

@@ -2,7 +2,6 @@
 use mathlib.Core.Path.{sym, ap, ◌∙◌}
 use Rattle.circuits.specs.Reading.{header_read, read_circuit}
 use Rattle.circuits.proofs.Turns.{reads_after}
-use borrow.Author.Rules.{rules}
 use Rattle.circuits.proofs.reading.read.Goals as goal
 
 pub returns-in-Refused : goal.returns-in-Refused

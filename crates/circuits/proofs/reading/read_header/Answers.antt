@@ -2,7 +2,6 @@
 use mathlib.Core.Path.{sym, ap, ◌∙◌}
 use borrow.Author.Tests.{eq-eqb, ne_eqb}
 use Rattle.circuits.specs.Reading.{headed, header_of}
-use borrow.Author.Rules.{rules}
 use Rattle.circuits.proofs.reading.read_header.Goals as goal
 
 pub returns-then-s-eq0 : goal.returns-then-s-eq0

@@ -1,14 +1,11 @@
 -- `circuits::reading::read_steps` meets its contract. The loop's invariant: what is read from here on, with the instructions
 -- counted so far, is what is read from the start. Assumes nothing.
 use Prim.Native.Nat.{◌-◌, ◌≤◌}
-use mathlib.Core.Path.{◌≡◌, sym, ap, ◌∙◌}
-use native.Mathlib.Omega.{arith}
+use mathlib.Core.Path.{◌≡◌}
 use lib.ListN.{length}
-use borrow.Author.Rules.{rules}
 use Rattle.circuits.specs.Limits.{most_wires, most_instructions, header_length}
 use Rattle.circuits.specs.Judging.{states_of, fresh_states}
 use Rattle.circuits.specs.Reading.{read_from, counted}
-use Rattle.circuits.proofs.Takes.{turn, counts_on}
 use Rattle.circuits.proofs.reading.read_steps.Given as goal
 
 abbrev pub invariant-loop-progress : goal.invariant-loop-progress

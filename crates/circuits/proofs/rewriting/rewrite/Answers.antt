@@ -3,7 +3,6 @@ use mathlib.Core.Path.{sym, ap, ◌∙◌}
 use Rattle.writing.proofs.Puts.{settled_refused, settled_done}
 use Rattle.circuits.specs.Reading.{reading_of}
 use Rattle.circuits.proofs.Rewrites.{accepted, turned_away, not_read, steps_stand, no_room, has_room, steps_fit, wrote_circuit}
-use borrow.Author.Rules.{rules}
 use Rattle.circuits.proofs.rewriting.rewrite.Goals as goal
 
 pub returns-then-out-circuit : goal.returns-then-out-circuit

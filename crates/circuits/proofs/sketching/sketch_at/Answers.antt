@@ -6,7 +6,6 @@ use Rattle.records.specs.Kinds.{outlined}
 use Rattle.records.specs.Records.{record_at}
 use Rattle.circuits.specs.Stepping.{instruction_at, step_at}
 use Rattle.circuits.proofs.Sketches.{body_holds}
-use borrow.Author.Rules.{rules}
 use Rattle.circuits.proofs.sketching.sketch_at.Goals as goal
 
 pub returns-then-s-at : goal.returns-then-s-at
@@ -34,12 +33,12 @@ sketch_in-requires c = omega (arith, body_holds _ (sym c.shape.ensures ∙ ap ou
 pub returns-then-is_instruction : goal.returns-then-is_instruction
 unfolding step_at instruction_at record_at
 returns-then-is_instruction c = rw (
-      lt-leb _ _ c.if-s-at.false,
-      ne_eqb _ _ c.if-left-eq0.false,
-      sym c.shape.ensures ∙ ap outlined c.in-Body.is,
-      sym c.is_instruction.ensures ∙ c.if-is_instruction.true,
-      lt-leb _ _ c.if-s-at-2.false,
-    ) c.sketch_in.ensures
+  lt-leb _ _ c.if-s-at.false,
+  ne_eqb _ _ c.if-left-eq0.false,
+  sym c.shape.ensures ∙ ap outlined c.in-Body.is,
+  sym c.is_instruction.ensures ∙ c.if-is_instruction.true,
+  lt-leb _ _ c.if-s-at-2.false,
+) c.sketch_in.ensures
 
 pub returns-in-Unknown : goal.returns-in-Unknown
 unfolding step_at instruction_at

@@ -3,7 +3,6 @@ use mathlib.Core.Path.{ap, ◌∙◌}
 use native.Mathlib.Omega.{arith}
 use Rattle.circuits.specs.Sketching.{operands_of}
 use Rattle.circuits.proofs.Sketches.{some_operand}
-use borrow.Author.Rules.{rules}
 use Rattle.circuits.proofs.sketching.sketch_in.Goals as goal
 
 pub bounds-s-at : goal.bounds-s-at

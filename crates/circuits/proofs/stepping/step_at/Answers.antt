@@ -2,7 +2,6 @@
 use mathlib.Core.Path.{sym, ap, ◌∙◌}
 use borrow.Author.Tests.{le-leb, lt-leb, eq-eqb, ne_eqb}
 use Rattle.circuits.specs.Stepping.{step_of, instruction_at, step_at}
-use borrow.Author.Rules.{rules}
 use Rattle.circuits.proofs.stepping.step_at.Goals as goal
 
 pub returns-then-s-at : goal.returns-then-s-at

@@ -1,6 +1,5 @@
 -- `circuits::stepping::step_of` meets its contract: each answer in turn. Assumes nothing.
 use mathlib.Core.Path.{◌∙◌}
-use borrow.Author.Rules.{rules}
 use Rattle.circuits.proofs.stepping.step_of.Goals as goal
 
 pub returns-in-Step : goal.returns-in-Step

@@ -1,6 +1,5 @@
 -- `circuits::taking::take_step` meets its contract: the next step in sketch, and the verdict on it. Assumes nothing.
 use Rattle.circuits.proofs.Takes.{told_end, told_refused, told_fault, told_passed}
-use borrow.Author.Rules.{rules}
 use Rattle.circuits.proofs.taking.take_step.Goals as goal
 
 pub returns-in-End : goal.returns-in-End

@@ -1,7 +1,6 @@
 -- `pairs::listing::is_pair_kind` meets its contract: the table of kinds gives the form. Assumes nothing.
 use mathlib.Core.Path.{sym, ap, ◌∙◌}
 use Rattle.records.specs.Kinds.{outlined}
-use borrow.Author.Rules.{rules}
 use Rattle.pairs.proofs.listing.is_pair_kind.Goals as goal
 
 pub returns-in-Body : goal.returns-in-Body

@@ -2,7 +2,6 @@
 use mathlib.Core.Path.{sym, ap, ◌∙◌}
 use borrow.Author.Tests.{le-leb, lt-leb}
 use Rattle.pairs.specs.Listing.{pair_of, pair_at}
-use borrow.Author.Rules.{rules}
 use Rattle.pairs.proofs.listing.pair_at.Goals as goal
 
 pub returns-then-list-at : goal.returns-then-list-at

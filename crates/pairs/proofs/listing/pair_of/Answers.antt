@@ -1,5 +1,4 @@
 -- `pairs::listing::pair_of` meets its contract: each answer in turn. Assumes nothing.
-use borrow.Author.Rules.{rules}
 use Rattle.pairs.proofs.listing.pair_of.Goals as goal
 
 pub returns-in-Reuse : goal.returns-in-Reuse

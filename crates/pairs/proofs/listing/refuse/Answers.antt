@@ -1,6 +1,5 @@
 -- `pairs::listing::refuse` meets its contract. Assumes nothing.
 use mathlib.Core.Path.{refl}
-use borrow.Author.Rules.{rules}
 use Rattle.pairs.proofs.listing.refuse.Goals as goal
 
 pub returns : goal.returns

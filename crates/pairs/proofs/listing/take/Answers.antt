@@ -1,7 +1,6 @@
 -- `pairs::listing::take` meets its contract: to a clean table both offers are the same. Assumes nothing.
 use mathlib.Core.Path.{◌∙◌}
 use native.Mathlib.Omega.{arith}
-use borrow.Author.Rules.{rules}
 use Rattle.table.proofs.CleanOffers.{same_offered}
 use Rattle.pairs.proofs.listing.take.Goals as goal
 

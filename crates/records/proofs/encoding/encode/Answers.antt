@@ -1,5 +1,4 @@
 -- `records::encoding::encode` meets its contract: each arm computes. Assumes nothing.
-use borrow.Author.Rules.{rules}
 use Rattle.records.specs.Bytes.{encoded}
 use Rattle.records.proofs.encoding.encode.Goals as goal
 

@@ -1,5 +1,4 @@
 -- `records::encoding::encode_instruction` meets its contract: each arm computes. Assumes nothing.
-use borrow.Author.Rules.{rules}
 use Rattle.records.specs.Bytes.{encoded}
 use Rattle.records.proofs.encoding.encode_instruction.Goals as goal
 

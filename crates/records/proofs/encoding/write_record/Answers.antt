@@ -2,7 +2,6 @@
 use mathlib.Core.Path.{sym}
 use lib.Seq.{length-take-le}
 use Rattle.records.proofs.Encodings.{encoded_front, encoded_room}
-use borrow.Author.Rules.{rules}
 use Rattle.records.proofs.encoding.write_record.Goals as goal
 
 pub slice_bounds-bytes-end : goal.slice_bounds-bytes-end

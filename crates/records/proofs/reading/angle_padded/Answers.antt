@@ -1,5 +1,4 @@
 -- `records::reading::angle_padded` meets its contract: the eight bytes one after the other. Assumes nothing.
-use borrow.Author.Rules.{rules}
 use Rattle.records.proofs.reading.angle_padded.Goals as goal
 
 pub returns : goal.returns

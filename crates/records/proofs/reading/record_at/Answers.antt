@@ -2,7 +2,6 @@
 use mathlib.Core.Path.{sym, ap, ◌∙◌}
 use Rattle.records.specs.Kinds.{outlined}
 use Rattle.records.proofs.Standings.{at_end, at_unknown, at_cut, at_record}
-use borrow.Author.Rules.{rules}
 use Rattle.records.proofs.reading.record_at.Goals as goal
 
 pub returns-then-s-at : goal.returns-then-s-at

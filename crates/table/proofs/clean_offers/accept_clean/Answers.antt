@@ -1,10 +1,10 @@
 -- `table::clean_offers::accept_clean` meets its contract: before turn u the rows below u are what the rule leaves of them. Assumes nothing.
-use Prim.Native.Nat.{ℕ, ◌≤◌, ◌<◌, ◌-◌}
-use mathlib.Core.Path.{◌≡◌, refl, ap, ◌∙◌}
+use Prim.Native.Nat.{ℕ}
+use mathlib.Core.Path.{refl, ap, ◌∙◌}
 use native.Mathlib.Nat.{not-suc-le-zero}
 use native.Mathlib.Omega.{arith}
 use borrow.Author.Rules.{rules}
-use lib.ListN.{length, get_or, length-set}
+use lib.ListN.{length-set}
 use Rattle.bits.specs.Bits.{bit, pack}
 use Rattle.bits.proofs.Lists.{filled}
 use Rattle.table.specs.Limits.{most_wires}

@@ -1,15 +1,10 @@
 -- `table::clean_offers::accept_clean` meets its contract: before turn u the rows below u are what the rule leaves of them. Assumes nothing.
 use Prim.Native.Nat.{ℕ, ◌≤◌, ◌<◌, ◌-◌}
-use mathlib.Core.Path.{◌≡◌, refl, ap, ◌∙◌}
-use native.Mathlib.Nat.{not-suc-le-zero}
-use native.Mathlib.Omega.{arith}
-use borrow.Author.Rules.{rules}
-use lib.ListN.{length, get_or, length-set}
+use mathlib.Core.Path.{◌≡◌}
+use lib.ListN.{length, get_or}
 use Rattle.bits.specs.Bits.{bit, pack}
-use Rattle.bits.proofs.Lists.{filled}
 use Rattle.table.specs.Limits.{most_wires}
-use Rattle.table.specs.Rule.{row_after, is_set, accepted_clean}
-use Rattle.table.proofs.CleanOffers.{own_row_gone}
+use Rattle.table.specs.Rule.{row_after, is_set}
 use Rattle.table.proofs.clean_offers.accept_clean.Given as goal
 
 abbrev pub invariant-loop-u : goal.invariant-loop-u

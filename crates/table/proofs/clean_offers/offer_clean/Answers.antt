@@ -3,7 +3,6 @@ use mathlib.Core.Path.{sym, ap, ◌∙◌}
 use Rattle.basics.specs.Outcome.{Outcome, done, handing, beside}
 use Rattle.table.specs.Rule.{accepted_clean}
 use Rattle.table.specs.Calls.{replied}
-use borrow.Author.Rules.{rules}
 use Rattle.table.proofs.Offers.{taken_inside}
 use Rattle.table.proofs.clean_offers.offer_clean.Goals as goal
 

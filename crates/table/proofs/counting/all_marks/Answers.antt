@@ -1,15 +1,15 @@
 -- `table::counting::all_marks` meets its contract: before turn u the rows below u are filled, and the others are 0. Assumes nothing.
-use Prim.Native.Nat.{◌≤◌, ◌<◌, ◌-◌, ◌^◌}
+use Prim.Native.Nat.{◌<◌, ◌^◌}
 use mathlib.Core.Path.{◌≡◌, refl, ◌∙◌}
 use native.Mathlib.Omega.{arith}
 use borrow.Author.Rules.{rules}
-use lib.ListN.{length, get_or, length-set}
+use lib.ListN.{get_or, length-set}
 use Rattle.bits.specs.Bits.{pack}
 use Rattle.table.specs.Limits.{most_wires}
 use Rattle.table.specs.Marks.{counts, rows_below}
 use Rattle.table.proofs.Held.{row_held}
 use Rattle.table.proofs.TableMarks.{row_counts}
-use Rattle.table.proofs.RowsBelow.{below_most, no_marks, Filling, filling_starts, filling_more, filling_ends}
+use Rattle.table.proofs.RowsBelow.{below_most, no_marks, filling_starts, filling_more, filling_ends}
 use Rattle.table.proofs.counting.all_marks.Goals as goal
 
 pub loop-u-init : goal.loop-u-init

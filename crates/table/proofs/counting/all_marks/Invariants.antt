@@ -1,15 +1,11 @@
 -- `table::counting::all_marks` meets its contract: before turn u the rows below u are filled, and the others are 0. Assumes nothing.
-use Prim.Native.Nat.{◌≤◌, ◌<◌, ◌-◌, ◌^◌}
-use mathlib.Core.Path.{◌≡◌, refl, ◌∙◌}
-use native.Mathlib.Omega.{arith}
-use borrow.Author.Rules.{rules}
-use lib.ListN.{length, get_or, length-set}
+use Prim.Native.Nat.{◌≤◌, ◌-◌}
+use mathlib.Core.Path.{◌≡◌}
+use lib.ListN.{length}
 use Rattle.bits.specs.Bits.{pack}
 use Rattle.table.specs.Limits.{most_wires}
-use Rattle.table.specs.Marks.{counts, rows_below}
-use Rattle.table.proofs.Held.{row_held}
-use Rattle.table.proofs.TableMarks.{row_counts}
-use Rattle.table.proofs.RowsBelow.{below_most, no_marks, Filling, filling_starts, filling_more, filling_ends}
+use Rattle.table.specs.Marks.{counts}
+use Rattle.table.proofs.RowsBelow.{Filling}
 use Rattle.table.proofs.counting.all_marks.Given as goal
 
 abbrev pub invariant-loop-u : goal.invariant-loop-u

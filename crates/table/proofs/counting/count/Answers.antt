@@ -2,7 +2,6 @@
 use mathlib.Core.Path.{sym, ap, ◌∙◌}
 use Rattle.basics.specs.Outcome.{done}
 use Rattle.table.specs.Calls.{count_of}
-use borrow.Author.Rules.{rules}
 use Rattle.table.proofs.counting.count.Goals as goal
 
 pub returns-then-wrong_width : goal.returns-then-wrong_width

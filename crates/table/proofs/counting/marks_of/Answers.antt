@@ -1,11 +1,11 @@
 -- `table::counting::marks_of` meets its contract: before turn u, n is the count of the rows below u. Assumes nothing.
-use Prim.Native.Nat.{◌≤◌, ◌<◌, ◌-◌, ◌^◌}
+use Prim.Native.Nat.{◌<◌, ◌^◌}
 use mathlib.Core.Path.{◌≡◌, refl, ◌∙◌}
 use native.Mathlib.Omega.{arith}
 use borrow.Author.Rules.{rules}
 use lib.Count.{ones-le}
 use lib.ListN.{get_or}
-use Rattle.bits.specs.Bits.{total, tally}
+use Rattle.bits.specs.Bits.{total}
 use Rattle.bits.proofs.Sums.{tallies_more, tallies_le}
 use Rattle.table.specs.Limits.{most_wires}
 use Rattle.table.specs.Marks.{counts, rows_below}

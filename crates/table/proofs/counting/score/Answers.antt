@@ -4,7 +4,6 @@ use Rattle.basics.specs.Outcome.{done, handing}
 use Rattle.table.specs.Marks.{marks_of}
 use Rattle.table.specs.Rule.{accepted}
 use Rattle.table.specs.Calls.{replied}
-use borrow.Author.Rules.{rules}
 use Rattle.table.proofs.counting.score.Goals as goal
 
 pub returns-in-Taken : goal.returns-in-Taken

@@ -1,10 +1,9 @@
 -- `table::offering::accept` meets its contract: before turn u the rows below u are what the change leaves of them, and the others
 -- are 0. Assumes nothing.
-use Prim.Native.Nat.{◌≤◌, ◌-◌}
 use mathlib.Core.Path.{◌≡◌, refl, ap, ◌∙◌}
 use native.Mathlib.Omega.{arith}
 use borrow.Author.Rules.{rules}
-use lib.ListN.{length, get_or, length-set}
+use lib.ListN.{get_or, length-set}
 use Rattle.bits.specs.Bits.{pack}
 use Rattle.table.specs.Limits.{most_wires}
 use Rattle.table.specs.Marks.{counts, rows_below}
@@ -13,7 +12,7 @@ use Rattle.table.specs.Changes.{changed}
 use Rattle.table.specs.declared.rows.Change.{Change}
 use Rattle.table.proofs.Held.{row_held}
 use Rattle.table.proofs.TableMarks.{row_changed}
-use Rattle.table.proofs.RowsBelow.{below_most, none_after, Filling, filling_starts, filling_more, filling_same, filling_ends}
+use Rattle.table.proofs.RowsBelow.{below_most, none_after, filling_starts, filling_more, filling_same, filling_ends}
 use Rattle.table.proofs.offering.accept.Goals as goal
 
 pub loop-u-init : goal.loop-u-init

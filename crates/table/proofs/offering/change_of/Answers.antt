@@ -1,7 +1,6 @@
 -- `table::offering::change_of` meets its contract. Assumes nothing.
 use Rattle.table.proofs.RowBits.{less_is}
 use Rattle.table.specs.Changes.{change_of}
-use borrow.Author.Rules.{rules}
 use Rattle.table.proofs.offering.change_of.Goals as goal
 
 pub returns : goal.returns

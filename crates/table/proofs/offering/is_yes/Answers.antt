@@ -5,7 +5,6 @@ use lib.ListN.{get_or}
 use Rattle.table.specs.Limits.{most_wires}
 use Rattle.table.proofs.Held.{row_held}
 use Rattle.table.proofs.TableMarks.{yes_is}
-use borrow.Author.Rules.{rules}
 use Rattle.table.proofs.offering.is_yes.Goals as goal
 
 pub returns : goal.returns

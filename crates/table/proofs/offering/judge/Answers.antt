@@ -1,10 +1,6 @@
 -- `table::offering::judge` meets its contract: each reply's tests are those that lead to it. Assumes nothing.
-use mathlib.Core.Path.{◌≡◌, sym, ◌∙◌}
-use mathlib.Core.Bool.{false}
-use Rattle.bits.specs.Bits.{bit}
-use Rattle.table.specs.Calls.{wrong_width, outside_width}
+use mathlib.Core.Path.{sym, ◌∙◌}
 use Rattle.table.proofs.Judgements.{wrong_table, not_below, already_lends, already_takes, closes_loop, is_taken}
-use borrow.Author.Rules.{rules}
 use Rattle.table.proofs.offering.judge.Goals as goal
 
 pub returns-then-wrong_width : goal.returns-then-wrong_width

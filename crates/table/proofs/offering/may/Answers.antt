@@ -2,7 +2,6 @@
 use mathlib.Core.Path.{sym, ap, ◌∙◌}
 use Rattle.basics.specs.Outcome.{done}
 use Rattle.table.specs.Calls.{may_lend}
-use borrow.Author.Rules.{rules}
 use Rattle.table.proofs.offering.may.Goals as goal
 
 pub returns-then-wrong_width : goal.returns-then-wrong_width

@@ -3,7 +3,6 @@ use mathlib.Core.Path.{sym, ap, ◌∙◌}
 use Rattle.basics.specs.Outcome.{Outcome, done, handing, beside}
 use Rattle.table.specs.Rule.{accepted}
 use Rattle.table.specs.Calls.{replied}
-use borrow.Author.Rules.{rules}
 use Rattle.table.proofs.offering.offer.Goals as goal
 
 pub returns-in-Taken : goal.returns-in-Taken

@@ -1,5 +1,4 @@
 -- `table::saving::put_row` meets its contract. Assumes nothing.
-use borrow.Author.Rules.{rules}
 use Rattle.table.proofs.saving.put_row.Goals as goal
 
 pub returns : goal.returns

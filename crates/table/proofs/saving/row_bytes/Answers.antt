@@ -1,14 +1,13 @@
 -- `table::saving::row_bytes` meets its contract: the bytes of what is left of the row are what is left to be written.
 -- Assumes nothing.
 use mathlib.Core.Path.{sym, ◌∙◌}
-use Prim.Native.Nat.{◌-◌, ◌≤◌}
 use native.Mathlib.Omega.{arith}
 use borrow.Author.Rules.{rules}
 use lib.ListN.{replicate}
 use Rattle.writing.specs.Numbers.{bytes_of}
 use Rattle.writing.proofs.Digits.{length_bytes_of, bytes_next, bytes_none}
 use Rattle.writing.proofs.Puts.{put_whole}
-use Rattle.writing.proofs.Remaining.{Remaining, remaining_start, remaining_store, remaining_end}
+use Rattle.writing.proofs.Remaining.{remaining_start, remaining_store, remaining_end}
 use Rattle.table.specs.Limits.{row_bytes}
 use Rattle.table.proofs.saving.row_bytes.Goals as goal
 

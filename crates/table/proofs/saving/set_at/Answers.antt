@@ -4,7 +4,7 @@ use native.Mathlib.Omega.{arith}
 use borrow.Author.Rules.{rules}
 use lib.ListN.{get_or}
 use Rattle.writing.specs.Numbers.{byte_values}
-use Rattle.writing.proofs.Reading.{Reading, reading_start, reading_fits, reading_byte, reading_end}
+use Rattle.writing.proofs.Reading.{reading_start, reading_fits, reading_byte, reading_end}
 use Rattle.table.specs.Limits.{row_bytes}
 use Rattle.table.proofs.saving.set_at.Goals as goal
 

@@ -1,13 +1,9 @@
 -- `table::saving::store_rows` meets its contract: the bytes of the rows from u on are what is left to be written.
 -- Assumes nothing.
-use Prim.Native.Nat.{◌+◌, ◌-◌, ◌≤◌}
-use mathlib.Core.Path.{◌≡◌}
-use native.Mathlib.Omega.{arith}
-use borrow.Author.Rules.{rules}
-use lib.ListN.{length, drop}
+use Prim.Native.Nat.{◌-◌, ◌≤◌}
+use lib.ListN.{drop}
 use Rattle.writing.specs.Numbers.{bytes_of_all}
-use Rattle.writing.proofs.Digits.{length-bytes_of_all, all_next, all_none}
-use Rattle.writing.proofs.Remaining.{Remaining, remaining_start, remaining_placed, remaining_end}
+use Rattle.writing.proofs.Remaining.{Remaining}
 use Rattle.table.specs.Limits.{most_wires, row_bytes}
 use Rattle.table.proofs.saving.store_rows.Given as goal
 

@@ -12,7 +12,6 @@ use Rattle.table.specs.declared.tables.Table.{Table}
 use Rattle.table.specs.TableBytes.{table_bytes}
 use Rattle.table.proofs.Held.{rows_held}
 use Rattle.table.proofs.SavedTables.{table_parts, length-table_bytes}
-use borrow.Author.Rules.{rules}
 use Rattle.table.proofs.saving.store_table.Goals as goal
 
 -- the parts, one after the other, are all that is to be written

@@ -1,7 +1,6 @@
 -- `table::saving::table_of` meets its contract: the zeros behind the bytes are those that are missing. Assumes nothing.
 use mathlib.Core.Path.{refl, sym, ap, ◌∙◌}
 use native.Mathlib.Omega.{arith}
-use borrow.Author.Rules.{rules}
 use Rattle.writing.proofs.Puts.{placed_wrote, placed_length}
 use Rattle.table.specs.Limits.{table_length}
 use Rattle.table.specs.TableBytes.{table_of}

@@ -1,11 +1,10 @@
 -- `table::saving::whole_table` meets its contract: before turn u the rows below u are read. Assumes nothing.
-use Prim.Native.Nat.{ℕ, ◌≤◌, ◌<◌, ◌-◌}
-use mathlib.Core.Path.{◌≡◌, refl}
+use mathlib.Core.Path.{refl}
 use native.Mathlib.Nat.{not-suc-le-zero}
 use native.Mathlib.Omega.{arith}
 use borrow.Author.Rules.{rules}
 use lib.Dec.{lit≤}
-use lib.ListN.{length, get_or, length-set}
+use lib.ListN.{get_or, length-set}
 use Rattle.bits.proofs.Lists.{filled, each_eq}
 use Rattle.table.specs.Limits.{most_wires}
 use Rattle.table.specs.TableBytes.{set_at, table_of}
@@ -16,10 +15,10 @@ loop-u-init c = (lit≤ tt, refl, λ j l. absurd (not-suc-le-zero l))
 
 pub loop-u-preserved : goal.loop-u-preserved
 loop-u-preserved c = let h = c.loop-u in (
-      search rules,
-      simp length-set h.invariant.1,
-      filled (set_at c.args.bytes.now) h.rows h.u c.set_at.result (search rules) h.invariant.2 c.set_at.ensures,
-    )
+  search rules,
+  simp length-set h.invariant.1,
+  filled (set_at c.args.bytes.now) h.rows h.u c.set_at.result (search rules) h.invariant.2 c.set_at.ensures,
+)
 
 pub bounds-bytes-0 : goal.bounds-bytes-0
 bounds-bytes-0 c = omega arith

@@ -1,14 +1,9 @@
 -- `table::saving::whole_table` meets its contract: before turn u the rows below u are read. Assumes nothing.
 use Prim.Native.Nat.{ℕ, ◌≤◌, ◌<◌, ◌-◌}
-use mathlib.Core.Path.{◌≡◌, refl}
-use native.Mathlib.Nat.{not-suc-le-zero}
-use native.Mathlib.Omega.{arith}
-use borrow.Author.Rules.{rules}
-use lib.Dec.{lit≤}
-use lib.ListN.{length, get_or, length-set}
-use Rattle.bits.proofs.Lists.{filled, each_eq}
+use mathlib.Core.Path.{◌≡◌}
+use lib.ListN.{length, get_or}
 use Rattle.table.specs.Limits.{most_wires}
-use Rattle.table.specs.TableBytes.{set_at, table_of}
+use Rattle.table.specs.TableBytes.{set_at}
 use Rattle.table.proofs.saving.whole_table.Given as goal
 
 abbrev pub invariant-loop-u : goal.invariant-loop-u

@@ -1,13 +1,8 @@
 -- `table::saving::write_table` meets its contract: the two tests say whether there is room. Assumes nothing.
-use mathlib.Core.Path.{◌≡◌}
 use native.Mathlib.Omega.{arith}
-use lib.ListN.{length}
 use Rattle.writing.proofs.Puts.{no_room, wrote_placed}
-use Rattle.table.specs.Limits.{table_length}
-use Rattle.table.specs.TableBytes.{table_bytes}
 use Rattle.table.proofs.Held.{rows_held}
 use Rattle.table.proofs.SavedTables.{length-table_bytes}
-use borrow.Author.Rules.{rules}
 use Rattle.table.proofs.saving.write_table.Goals as goal
 
 pub returns-then-out-lt-BYTES : goal.returns-then-out-lt-BYTES

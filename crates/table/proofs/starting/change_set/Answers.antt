@@ -2,7 +2,6 @@
 use mathlib.Core.Path.{sym}
 use native.Mathlib.Omega.{arith}
 use Rattle.basics.proofs.Lists.{set_past}
-use borrow.Author.Rules.{rules}
 use Rattle.table.proofs.starting.change_set.Goals as goal
 
 pub returns-else-n-rows : goal.returns-else-n-rows

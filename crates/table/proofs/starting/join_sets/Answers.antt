@@ -1,5 +1,4 @@
 -- `table::starting::join_sets` meets its contract: what each sketch does to the rows. Assumes nothing.
-use borrow.Author.Rules.{rules}
 use Rattle.table.proofs.starting.join_sets.Goals as goal
 
 pub returns-in-Reset : goal.returns-in-Reset

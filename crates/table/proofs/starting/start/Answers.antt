@@ -6,7 +6,6 @@ use Rattle.circuits.proofs.Rewrites.{accepted, turned_away, steps_stand}
 use Rattle.table.specs.Marks.{empty_table}
 use Rattle.table.specs.Starting.{table_at_start}
 use Rattle.table.proofs.StartRows.{start_told}
-use borrow.Author.Rules.{rules}
 use Rattle.table.proofs.starting.start.Goals as goal
 
 pub all_sets-requires : goal.all_sets-requires

@@ -5,7 +5,6 @@ use mathlib.Core.Path.{sym, ap, ◌∙◌}
 use borrow.Author.Tests.{lt-ltb, le-ltb}
 use Rattle.table.specs.Limits.{most_wires}
 use Rattle.bits.proofs.Packing.{pack_ext, nothing_packed}
-use borrow.Author.Rules.{rules}
 use Rattle.table.proofs.starting.start_row.Goals as goal
 
 pub returns-then-lender-width : goal.returns-then-lender-width

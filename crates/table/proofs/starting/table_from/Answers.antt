@@ -1,11 +1,10 @@
 -- `table::starting::table_from` meets its contract: before each turn the rows below the lender are made. Assumes nothing.
-use Prim.Native.Nat.{ℕ, ◌≤◌, ◌<◌, ◌-◌}
-use mathlib.Core.Path.{◌≡◌, refl}
+use mathlib.Core.Path.{refl}
 use native.Mathlib.Nat.{not-suc-le-zero}
 use native.Mathlib.Omega.{arith}
 use borrow.Author.Rules.{rules}
 use lib.Dec.{lit≤}
-use lib.ListN.{length, get_or, length-set}
+use lib.ListN.{get_or, length-set}
 use Rattle.bits.specs.Bits.{pack}
 use Rattle.bits.proofs.Lists.{filled, each_eq}
 use Rattle.table.specs.Limits.{most_wires}

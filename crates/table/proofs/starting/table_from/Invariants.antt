@@ -1,15 +1,10 @@
 -- `table::starting::table_from` meets its contract: before each turn the rows below the lender are made. Assumes nothing.
 use Prim.Native.Nat.{ℕ, ◌≤◌, ◌<◌, ◌-◌}
-use mathlib.Core.Path.{◌≡◌, refl}
-use native.Mathlib.Nat.{not-suc-le-zero}
-use native.Mathlib.Omega.{arith}
-use borrow.Author.Rules.{rules}
-use lib.Dec.{lit≤}
-use lib.ListN.{length, get_or, length-set}
+use mathlib.Core.Path.{◌≡◌}
+use lib.ListN.{length, get_or}
 use Rattle.bits.specs.Bits.{pack}
-use Rattle.bits.proofs.Lists.{filled, each_eq}
 use Rattle.table.specs.Limits.{most_wires}
-use Rattle.table.specs.Starting.{start_row, start_from}
+use Rattle.table.specs.Starting.{start_row}
 use Rattle.table.proofs.starting.table_from.Given as goal
 
 abbrev pub invariant-loop-lender : goal.invariant-loop-lender

@@ -6,7 +6,6 @@ use native.Mathlib.Omega.{arith}
 use Rattle.basics.specs.Outcome.{Outcome, handing}
 use Rattle.writing.proofs.Puts.{placed_wrote}
 use Rattle.thaksipho.proofs.ListWords.{records, list_cut, list_fits, listed_refused, listed_done}
-use borrow.Author.Rules.{rules}
 use Rattle.thaksipho.proofs.choosing.hand_list.Goals as goal
 
 pub returns-then-out-count : goal.returns-then-out-count

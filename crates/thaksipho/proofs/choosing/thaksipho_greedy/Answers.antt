@@ -5,7 +5,6 @@ use Rattle.choosers.specs.Results.{chosen, greedy_of}
 use Rattle.thaksipho.specs.Lists.{list_value, list_written}
 use Rattle.choosers.proofs.HandedLists.{greedy_sized}
 use Rattle.thaksipho.proofs.ListWords.{listed_refused, greedy_place, relisted}
-use borrow.Author.Rules.{rules}
 use Rattle.thaksipho.proofs.choosing.thaksipho_greedy.Goals as goal
 
 pub hand_list-requires : goal.hand_list-requires

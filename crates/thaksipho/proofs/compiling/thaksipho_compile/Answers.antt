@@ -4,7 +4,6 @@ use Rattle.writer.specs.Compiling.{compiling_of}
 use Rattle.thaksipho.specs.Words.{word}
 use Rattle.thaksipho.proofs.Fitting.{told_fits, worded, kept}
 use Rattle.thaksipho.proofs.CompileWords.{bytes_told, compiled_settled, compile_fits}
-use borrow.Author.Rules.{rules}
 use Rattle.thaksipho.proofs.compiling.thaksipho_compile.Goals as goal
 
 pub returns-in-Done : goal.returns-in-Done

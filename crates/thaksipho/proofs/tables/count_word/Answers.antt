@@ -4,7 +4,6 @@ use Rattle.table.specs.Calls.{tallied}
 use Rattle.thaksipho.specs.Words.{word}
 use Rattle.thaksipho.specs.Tables.{Small}
 use Rattle.thaksipho.proofs.Fitting.{kept}
-use borrow.Author.Rules.{rules}
 use Rattle.thaksipho.proofs.tables.count_word.Goals as goal
 
 pub returns-in-Refused : goal.returns-in-Refused

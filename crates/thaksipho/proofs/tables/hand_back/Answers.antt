@@ -6,7 +6,6 @@ use Rattle.table.proofs.Held.{rows_held}
 use Rattle.table.proofs.SavedTables.{length-table_bytes}
 use Rattle.thaksipho.proofs.Fitting.{worded, refusal_worded}
 use Rattle.thaksipho.proofs.TableWords.{no_room_for, room_for}
-use borrow.Author.Rules.{rules}
 use Rattle.thaksipho.proofs.tables.hand_back.Goals as goal
 
 pub returns-then-out-lt-BYTES : goal.returns-then-out-lt-BYTES

@@ -7,7 +7,6 @@ use Rattle.table.specs.declared.tables.Table.{Table}
 use Rattle.thaksipho.specs.Words.{word, flag}
 use Rattle.thaksipho.proofs.Fitting.{refusal_tells}
 use Rattle.thaksipho.proofs.TableWords.{may_fits}
-use borrow.Author.Rules.{rules}
 use Rattle.thaksipho.proofs.tables.thaksipho_may.Goals as goal
 
 pub returns-in-Yes : goal.returns-in-Yes

@@ -5,7 +5,6 @@ use Rattle.table.specs.Calls.{replied, offered}
 use Rattle.table.specs.declared.tables.Table.{Table}
 use Rattle.thaksipho.proofs.Fitting.{refusal_worded}
 use Rattle.thaksipho.proofs.TableWords.{reworded, refused_written, offered_sound, sound_place}
-use borrow.Author.Rules.{rules}
 use Rattle.thaksipho.proofs.tables.thaksipho_offer.Goals as goal
 
 pub returns-in-Taken : goal.returns-in-Taken

@@ -5,7 +5,6 @@ use Rattle.table.specs.declared.tables.Table.{Table}
 use Rattle.thaksipho.specs.Words.{word}
 use Rattle.thaksipho.proofs.Fitting.{told_fits, fits_small}
 use Rattle.thaksipho.proofs.TableWords.{score_fits}
-use borrow.Author.Rules.{rules}
 use Rattle.thaksipho.proofs.tables.thaksipho_score.Goals as goal
 
 pub count_word-requires : goal.count_word-requires

@@ -4,7 +4,6 @@ use Rattle.basics.specs.Outcome.{handing}
 use Rattle.table.specs.Starting.{replied_at_start}
 use Rattle.thaksipho.proofs.Fitting.{refusal_worded}
 use Rattle.thaksipho.proofs.TableWords.{reworded, refused_written, started_sound, sound_place}
-use borrow.Author.Rules.{rules}
 use Rattle.thaksipho.proofs.tables.thaksipho_start.Goals as goal
 
 pub returns-in-Done : goal.returns-in-Done

@@ -1,14 +1,14 @@
 -- `writer::chaining::all_firsts_below` meets its contract: before turn x, the count is that of the first wires below x, and those of the
 -- wires below x are stored. Assumes nothing.
-use Prim.Native.Nat.{ℕ, ◌+◌, ◌-◌, ◌≤◌, ◌<◌}
-use mathlib.Core.Path.{◌≡◌, refl, sym, ap, ◌∙◌}
+use Prim.Native.Nat.{◌+◌}
+use mathlib.Core.Path.{refl, sym, ap, ◌∙◌}
 use native.Mathlib.Nat.{not-suc-le-zero}
 use native.Mathlib.Omega.{arith}
 use borrow.Author.Rules.{rules}
-use lib.ListN.{length, get_or, length-set}
+use lib.ListN.{length-set}
 use Rattle.bits.proofs.Lists.{filled, each_eq}
 use Rattle.circuits.specs.Limits.{most_wires}
-use Rattle.writer.specs.Chains.{begins, firsts_below}
+use Rattle.writer.specs.Chains.{firsts_below}
 use Rattle.writer.proofs.Chains.{firsts_none, firsts_more, begins_few}
 use Rattle.writer.proofs.chaining.all_firsts_below.Goals as goal
 

@@ -1,6 +1,5 @@
 -- `writer::chaining::begins` meets its contract. Assumes nothing.
 use mathlib.Core.Path.{sym, ◌∙◌}
-use borrow.Author.Rules.{rules}
 use Rattle.writer.proofs.chaining.begins.Goals as goal
 
 pub returns-then-takes : goal.returns-then-takes

@@ -1,7 +1,6 @@
 -- `writer::chaining::first_of` meets its contract: what is left of the way from here ends where the whole way does. Assumes nothing.
-use mathlib.Core.Path.{◌≡◌, refl, sym, ◌∙◌}
+use mathlib.Core.Path.{refl, sym, ◌∙◌}
 use borrow.Author.Rules.{rules}
-use Rattle.writer.specs.Chains.{first_from}
 use Rattle.writer.proofs.Chains.{first_here, first_on, first_end}
 use Rattle.writer.proofs.chaining.first_of.Goals as goal
 

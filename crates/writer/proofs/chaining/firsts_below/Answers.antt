@@ -1,9 +1,8 @@
 -- `writer::chaining::firsts_below` meets its contract: before turn x, the count is that of the first wires below x. Assumes nothing.
-use Prim.Native.Nat.{◌+◌, ◌-◌, ◌≤◌}
+use Prim.Native.Nat.{◌+◌}
 use mathlib.Core.Path.{◌≡◌, sym, ap, ◌∙◌}
 use native.Mathlib.Omega.{arith}
 use borrow.Author.Rules.{rules}
-use Rattle.writer.specs.Chains.{begins, firsts_below}
 use Rattle.writer.proofs.Chains.{firsts_none, firsts_more, begins_few}
 use Rattle.writer.proofs.chaining.firsts_below.Goals as goal
 

@@ -4,7 +4,6 @@ use borrow.Author.Tests.{lt-ltb, le-ltb}
 use Rattle.basics.proofs.Lists.{get_or-inside}
 use Rattle.pairs.specs.Lending.{nobody}
 use Rattle.writer.specs.Heads.{is_free}
-use borrow.Author.Rules.{rules}
 use Rattle.writer.proofs.choosing.is_free.Goals as goal
 
 pub returns-then-lender-valid : goal.returns-then-lender-valid

@@ -1,13 +1,8 @@
 -- `writer::choosing::least` meets its contract: before turn x the least of the first x is held. Assumes nothing.
-use Prim.Native.Nat.{◌-◌, ◌≤◌}
 use mathlib.Core.Path.{◌≡◌}
-use mathlib.Core.Logic.{⊎_elim}
 use native.Mathlib.Omega.{arith}
 use Rattle.circuits.specs.Limits.{most_wires}
-use Rattle.writer.specs.Heads.{Least}
 use Rattle.writer.proofs.Candidates.{least_first, least_lower, least_other}
-use borrow.Author.Rules.{rules}
-use borrow.Author.Rules.{rules}
 use Rattle.writer.proofs.choosing.least.Goals as goal
 use Rattle.writer.proofs.choosing.least.Goals.{then-candidates-x, else-candidates-x}
 

@@ -2,7 +2,6 @@
 use mathlib.Core.Path.{sym, ◌∙◌}
 use borrow.Author.Tests.{eq-eqb, ne_eqb}
 use Rattle.writer.specs.Heads.{may_write}
-use borrow.Author.Rules.{rules}
 use Rattle.writer.proofs.choosing.may_write.Goals as goal
 
 pub returns-then-of_wire-index : goal.returns-then-of_wire-index

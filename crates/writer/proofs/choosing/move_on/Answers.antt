@@ -5,7 +5,6 @@ use borrow.Author.Tests.{eq-eqb, ne_eqb}
 use Rattle.writer.specs.Heads.{tried_both}
 use Rattle.writer.proofs.Wires.{headed-length}
 use Rattle.writer.proofs.Candidates.{fit_moved, fit_headed}
-use borrow.Author.Rules.{rules}
 use Rattle.writer.proofs.choosing.move_on.Goals as goal
 
 pub try_moved-requires : goal.try_moved-requires

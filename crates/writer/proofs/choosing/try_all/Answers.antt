@@ -1,12 +1,9 @@
 -- `writer::choosing::try_all` meets its contract: before turn x the heads of the wires below x are tried. Assumes nothing.
-use Prim.Native.Nat.{◌-◌, ◌≤◌}
 use mathlib.Core.Path.{◌≡◌, refl, ap, ◌∙◌}
 use native.Mathlib.Omega.{arith}
 use native.Mathlib.Numerals.{add-one}
-use Rattle.writer.specs.Heads.{Fit, tried, tried_below}
+use Rattle.writer.specs.Heads.{tried, tried_below}
 use Rattle.writer.proofs.Candidates.{fit_tried}
-use borrow.Author.Rules.{rules}
-use borrow.Author.Rules.{rules}
 use Rattle.writer.proofs.choosing.try_all.Goals as goal
 
 pub loop-x-init : goal.loop-x-init
@@ -18,12 +15,11 @@ try_head-requires c = let l = c.loop-x in record { fit = l.invariant.1; wire_lt_
 
 pub loop-x-preserved : goal.loop-x-preserved
 unfolding tried_below
-loop-x-preserved c = let l = c.loop-x in
-    (
-      omega arith,
-      fit_tried _ _ _ _ _ _ _ c.try_head.ensures l.invariant.1,
-      rw add-one (c.try_head.ensures ∙ ap (tried c.args.lenders.now c.args.indices.now c.args.valid c.args.forms.now c.args.firsts.now c.args.seconds.now l.x) l.invariant.2),
-    )
+loop-x-preserved c = let l = c.loop-x in (
+  omega arith,
+  fit_tried _ _ _ _ _ _ _ c.try_head.ensures l.invariant.1,
+  rw add-one (c.try_head.ensures ∙ ap (tried c.args.lenders.now c.args.indices.now c.args.valid c.args.forms.now c.args.firsts.now c.args.seconds.now l.x) l.invariant.2),
+)
 
 pub returns : goal.returns
 returns c = let e : c.loop-x.x ≡ c.args.valid.width = omega (arith, c.loop-x.invariant.0) in rw e at c.loop-x.invariant.2

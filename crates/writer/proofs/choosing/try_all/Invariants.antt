@@ -1,12 +1,7 @@
 -- `writer::choosing::try_all` meets its contract: before turn x the heads of the wires below x are tried. Assumes nothing.
 use Prim.Native.Nat.{◌-◌, ◌≤◌}
-use mathlib.Core.Path.{◌≡◌, refl, ap, ◌∙◌}
-use native.Mathlib.Omega.{arith}
-use native.Mathlib.Numerals.{add-one}
-use Rattle.writer.specs.Heads.{Fit, tried, tried_below}
-use Rattle.writer.proofs.Candidates.{fit_tried}
-use borrow.Author.Rules.{rules}
-use borrow.Author.Rules.{rules}
+use mathlib.Core.Path.{◌≡◌}
+use Rattle.writer.specs.Heads.{Fit, tried_below}
 use Rattle.writer.proofs.choosing.try_all.Given as goal
 
 abbrev pub invariant-loop-x : goal.invariant-loop-x

@@ -1,9 +1,7 @@
 -- `writer::choosing::try_head` meets its contract: its tests are the definition's. Assumes nothing.
 use mathlib.Core.Path.{sym, ◌∙◌}
-use mathlib.Core.Logic.{⊎_elim}
 use borrow.Author.Tests.{lt-ltb, le-ltb}
 use Rattle.writer.specs.Heads.{candidate, tried}
-use borrow.Author.Rules.{rules}
 use Rattle.writer.proofs.choosing.try_head.Goals as goal
 use Rattle.writer.proofs.choosing.try_head.Goals.{then-index-valid+else-may_write, else-index-valid}
 
@@ -20,6 +18,6 @@ returns-then-may_write c = rw (← c.of_wire-index.ensures, lt-ltb _ _ c.if-inde
 pub returns : goal.returns
 unfolding tried candidate
 returns c = elim c.if-index-valid.branch [
-      | then-index-valid+else-may_write w ↦ rw (← c.of_wire-index.ensures, lt-ltb _ _ w.if-index-valid.true, sym w.may_write.ensures ∙ w.if-may_write.false) c.set_head.ensures
-      | else-index-valid w ↦ rw (← c.of_wire-index.ensures, le-ltb _ _ w.if-index-valid.false) c.set_head.ensures
-    ]
+  | then-index-valid+else-may_write w ↦ rw (← c.of_wire-index.ensures, lt-ltb _ _ w.if-index-valid.true, sym w.may_write.ensures ∙ w.if-may_write.false) c.set_head.ensures
+  | else-index-valid w ↦ rw (← c.of_wire-index.ensures, le-ltb _ _ w.if-index-valid.false) c.set_head.ensures
+]

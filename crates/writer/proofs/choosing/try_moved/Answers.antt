@@ -2,7 +2,6 @@
 use borrow.Author.Tests.{le-leb, lt-leb}
 use Rattle.writer.specs.Heads.{tried_moved}
 use Rattle.writer.proofs.Candidates.{fit_tried}
-use borrow.Author.Rules.{rules}
 use Rattle.writer.proofs.choosing.try_moved.Goals as goal
 
 pub try_takers-requires : goal.try_takers-requires

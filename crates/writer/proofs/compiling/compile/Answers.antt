@@ -8,7 +8,6 @@ use Rattle.circuits.specs.Reading.{reading_of}
 use Rattle.circuits.proofs.Rewrites.{accepted, turned_away}
 use Rattle.pairs.proofs.Settling.{settled_told}
 use Rattle.writer.proofs.Compiles.{compiled_refused, compiled_to, circuit_refused, table_is, told_refused, told_length, told_accepted}
-use borrow.Author.Rules.{rules}
 use Rattle.writer.proofs.compiling.compile.Goals as goal
 
 pub note_all-requires : goal.note_all-requires

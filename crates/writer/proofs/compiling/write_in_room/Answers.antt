@@ -1,7 +1,6 @@
 -- `writer::compiling::write_in_room` meets its contract: 31 with the length needed, or the dynamic circuit. Assumes nothing.
 use native.Mathlib.Omega.{arith}
 use Rattle.writer.proofs.Compiles.{room_short, room_enough}
-use borrow.Author.Rules.{rules}
 use Rattle.writer.proofs.compiling.write_in_room.Goals as goal
 
 pub returns-then-out-circuit : goal.returns-then-out-circuit

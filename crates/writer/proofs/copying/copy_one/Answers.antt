@@ -4,7 +4,6 @@ use native.Mathlib.Omega.{arith}
 use lib.ListN.{length-set}
 use Rattle.writing.proofs.Puts.{placed_length}
 use Rattle.writer.proofs.Copies.{copied_one}
-use borrow.Author.Rules.{rules}
 use Rattle.writer.proofs.copying.copy_one.Goals as goal
 
 pub bounds-out-to-2 : goal.bounds-out-to-2

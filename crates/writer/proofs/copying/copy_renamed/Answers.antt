@@ -1,7 +1,6 @@
 -- `writer::copying::copy_renamed` meets its contract: the bytes stored are the renamed instruction's. Assumes nothing.
 use lib.ListN.{get_or}
 use Rattle.writer.proofs.Copies.{noted_within, noted_one, noted_two, wrote_one, wrote_two}
-use borrow.Author.Rules.{rules}
 use Rattle.writer.proofs.copying.copy_renamed.Goals as goal
 
 pub copy_two-requires : goal.copy_two-requires

@@ -1,7 +1,6 @@
 -- `writer::dynamic::write_dynamic` meets its contract: the 02 record and the instructions behind it. Assumes nothing.
 use Rattle.circuits.proofs.Rewrites.{accepted}
 use Rattle.writer.proofs.Written.{steps_fit, wrote_output}
-use borrow.Author.Rules.{rules}
 use Rattle.writer.proofs.dynamic.write_dynamic.Goals as goal
 
 pub write_steps-requires : goal.write_steps-requires

@@ -1,22 +1,17 @@
 -- `writer::dynamic::write_in_order` meets its contract: the heads and the candidates are those after what is written, and what is still to be written
 -- is the rest of the order. Assumes nothing.
 use Prim.Native.Nat.{◌<◌}
-use mathlib.Core.Path.{◌≡◌, ap}
+use mathlib.Core.Path.{ap}
 use native.Mathlib.Omega.{arith}
-use lib.ListN.{length, length-replicate}
+use lib.ListN.{length-replicate}
 use mir.Syntax.{w8}
 use Rattle.basics.proofs.Arrays.{array_length}
 use Rattle.circuits.specs.Limits.{most_wires}
-use Rattle.circuits.specs.Reading.{read_circuit}
-use Rattle.circuits.specs.Rewriting.{steps_of}
 use Rattle.circuits.specs.Validity.{steps_bytes}
-use Rattle.circuits.proofs.Rewrites.{Accepted, accepted}
-use Rattle.writer.specs.Heads.{Notes}
+use Rattle.circuits.proofs.Rewrites.{accepted}
 use Rattle.writer.specs.Outputs.{dynamic_in}
-use Rattle.writer.proofs.Turns.{Going, going_start, going_end, going_stuck, going_on, chosen_below, chosen_there, told_room, notes_low, fitting}
+use Rattle.writer.proofs.Turns.{going_start, going_end, going_stuck, going_on, chosen_below, chosen_there, told_room, notes_low, fitting}
 use Rattle.writer.proofs.Written.{few_instructions}
-use borrow.Author.Rules.{rules}
-use borrow.Author.Rules.{rules}
 use Rattle.writer.proofs.dynamic.write_in_order.Goals as goal
 
 pub overflow_cast-candidates : goal.overflow_cast-candidates

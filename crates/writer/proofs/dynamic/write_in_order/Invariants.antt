@@ -1,22 +1,15 @@
 -- `writer::dynamic::write_in_order` meets its contract: the heads and the candidates are those after what is written, and what is still to be written
 -- is the rest of the order. Assumes nothing.
-use Prim.Native.Nat.{◌<◌}
-use mathlib.Core.Path.{◌≡◌, ap}
-use native.Mathlib.Omega.{arith}
-use lib.ListN.{length, length-replicate}
-use mir.Syntax.{w8}
-use Rattle.basics.proofs.Arrays.{array_length}
+use mathlib.Core.Path.{◌≡◌}
+use lib.ListN.{length}
 use Rattle.circuits.specs.Limits.{most_wires}
 use Rattle.circuits.specs.Reading.{read_circuit}
 use Rattle.circuits.specs.Rewriting.{steps_of}
 use Rattle.circuits.specs.Validity.{steps_bytes}
-use Rattle.circuits.proofs.Rewrites.{Accepted, accepted}
+use Rattle.circuits.proofs.Rewrites.{Accepted}
 use Rattle.writer.specs.Heads.{Notes}
 use Rattle.writer.specs.Outputs.{dynamic_in}
-use Rattle.writer.proofs.Turns.{Going, going_start, going_end, going_stuck, going_on, chosen_below, chosen_there, told_room, notes_low, fitting}
-use Rattle.writer.proofs.Written.{few_instructions}
-use borrow.Author.Rules.{rules}
-use borrow.Author.Rules.{rules}
+use Rattle.writer.proofs.Turns.{Going}
 use Rattle.writer.proofs.dynamic.write_in_order.Given as goal
 
 abbrev pub invariant-loop-left : goal.invariant-loop-left

@@ -7,7 +7,6 @@ use Rattle.circuits.specs.Limits.{most_instructions}
 use Rattle.circuits.proofs.Rewrites.{accepted}
 use Rattle.writer.proofs.Turns.{notes_low}
 use Rattle.writer.proofs.Written.{few_instructions}
-use borrow.Author.Rules.{rules}
 use Rattle.writer.proofs.dynamic.write_steps.Goals as goal
 
 pub overflow_cast-instructions : goal.overflow_cast-instructions

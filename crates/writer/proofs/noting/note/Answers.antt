@@ -1,6 +1,5 @@
 -- `writer::noting::note` meets its contract. Assumes nothing.
 use mathlib.Core.Path.{refl}
-use borrow.Author.Rules.{rules}
 use Rattle.writer.proofs.noting.note.Goals as goal
 
 pub returns : goal.returns

@@ -2,7 +2,6 @@
 use mathlib.Core.Path.{sym, ap, ◌∙◌}
 use Rattle.circuits.specs.Reading.{header_read}
 use Rattle.writer.proofs.Notes.{header_refused}
-use borrow.Author.Rules.{rules}
 use Rattle.writer.proofs.noting.note_all.Goals as goal
 
 pub note_steps-requires : goal.note_steps-requires

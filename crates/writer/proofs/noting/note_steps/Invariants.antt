@@ -1,14 +1,10 @@
 -- `writer::noting::note_steps` meets its contract. The loop's invariant: what is read from here on, behind the instructions read so far, is what is
 -- read from the start, and of those so far all is kept. Assumes nothing.
 use Prim.Native.Nat.{◌-◌}
-use mathlib.Core.Path.{◌≡◌, refl, ◌∙◌}
-use native.Mathlib.Omega.{arith}
+use mathlib.Core.Path.{◌≡◌}
 use lib.ListN.{length}
 use Rattle.circuits.specs.Limits.{most_wires, most_instructions}
-use Rattle.circuits.proofs.Takes.{turn}
-use Rattle.writer.proofs.Notes.{Noting, noting_start, noting_told, kept_refused, kept_all, noting_below, noting_near, noting_on}
-use borrow.Author.Rules.{rules}
-use borrow.Author.Rules.{rules}
+use Rattle.writer.proofs.Notes.{Noting}
 use Rattle.writer.proofs.noting.note_steps.Given as goal
 
 abbrev pub invariant-loop-progress : goal.invariant-loop-progress

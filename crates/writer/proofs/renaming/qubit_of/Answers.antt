@@ -1,6 +1,5 @@
 -- `writer::renaming::qubit_of` meets its contract: what was told, or the count at the first wire, is the number of the chain. Assumes nothing.
 use mathlib.Core.Path.{ap, ◌∙◌}
-use borrow.Author.Rules.{rules}
 use Rattle.writer.specs.Chains.{firsts_below, qubit_of}
 use Rattle.writer.proofs.Chains.{count_at, tells_qubit}
 use Rattle.writer.proofs.renaming.qubit_of.Goals as goal

@@ -1,7 +1,6 @@
 -- `writer::renaming::tell` meets its contract: a wire that takes from a lower one has its qubit. Assumes nothing.
 use mathlib.Core.Path.{refl, sym, ◌∙◌}
 use mathlib.Core.Logic.{inl}
-use borrow.Author.Rules.{rules}
 use Rattle.writer.proofs.Chains.{count_at, tells_first, tells_on}
 use Rattle.writer.proofs.renaming.tell.Goals as goal
 

@@ -1,13 +1,9 @@
 -- `writer::renaming::tell_all` meets its contract: before turn x what is stored for the wires below x tells their qubits. Assumes nothing.
 use Prim.Native.Nat.{ℕ, ◌-◌, ◌≤◌, ◌<◌}
-use mathlib.Core.Path.{◌≡◌, refl}
-use native.Mathlib.Nat.{not-suc-le-zero}
-use native.Mathlib.Omega.{arith}
-use borrow.Author.Rules.{rules}
-use lib.ListN.{length, get_or, length-set}
+use mathlib.Core.Path.{◌≡◌}
+use lib.ListN.{length, get_or}
 use Rattle.circuits.specs.Limits.{most_wires}
 use Rattle.writer.specs.Chains.{Tells}
-use Rattle.writer.proofs.Chains.{tells_more}
 use Rattle.writer.proofs.renaming.tell_all.Given as goal
 
 abbrev pub invariant-loop-x : goal.invariant-loop-x

@@ -1,15 +1,11 @@
 -- `writer::seeking::link` meets its contract: before each turn the instructions from the index on are linked. Assumes nothing.
 use Prim.Native.Nat.{ℕ, ◌≤◌}
-use mathlib.Core.Path.{◌≡◌, refl, ap, ◌∙◌}
+use mathlib.Core.Path.{◌≡◌}
 use mathlib.Core.List.{List}
-use native.Mathlib.Omega.{arith}
-use lib.ListN.{length, length-set}
+use lib.ListN.{length}
 use Rattle.records.specs.declared.instructions.Instruction.{Instruction}
 use Rattle.circuits.specs.Limits.{most_wires, most_instructions}
 use Rattle.writer.specs.Heads.{Tabled, Linked}
-use Rattle.writer.proofs.Links.{linked_none, linked_more}
-use borrow.Author.Rules.{rules}
-use borrow.Author.Rules.{rules}
 use Rattle.writer.proofs.seeking.link.Given as goal
 
 abbrev pub invariant-loop-index : goal.invariant-loop-index

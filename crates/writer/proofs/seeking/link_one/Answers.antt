@@ -1,5 +1,4 @@
 -- `writer::seeking::link_one` meets its contract. Assumes nothing.
-use borrow.Author.Rules.{rules}
 use Rattle.writer.proofs.seeking.link_one.Goals as goal
 
 pub returns : goal.returns

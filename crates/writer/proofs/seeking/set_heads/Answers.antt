@@ -1,5 +1,4 @@
 -- `writer::seeking::set_heads` meets its contract. Assumes nothing.
-use borrow.Author.Rules.{rules}
 use Rattle.writer.proofs.seeking.set_heads.Goals as goal
 
 pub returns : goal.returns

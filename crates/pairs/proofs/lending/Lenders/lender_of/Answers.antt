@@ -7,7 +7,6 @@ use mir.Syntax.{w8}
 use Rattle.basics.proofs.Arrays.{array_length}
 use Rattle.circuits.specs.Limits.{most_wires}
 use Rattle.pairs.specs.Lending.{nobody}
-use borrow.Author.Rules.{rules}
 use Rattle.pairs.proofs.lending.Lenders.lender_of.Goals as goal
 
 pub returns-then-n-lt-MOST_WIRES : goal.returns-then-n-lt-MOST_WIRES

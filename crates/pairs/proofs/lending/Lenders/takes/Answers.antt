@@ -1,5 +1,4 @@
 -- `pairs::lending::Lenders::takes` meets its contract. Assumes nothing.
-use borrow.Author.Rules.{rules}
 use Rattle.pairs.proofs.lending.Lenders.takes.Goals as goal
 
 pub returns : goal.returns

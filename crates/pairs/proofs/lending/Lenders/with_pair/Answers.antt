@@ -6,7 +6,6 @@ use mir.Syntax.{w8}
 use Rattle.basics.proofs.Arrays.{array_length}
 use Rattle.basics.proofs.Lists.{set_past}
 use Rattle.circuits.specs.Limits.{most_wires}
-use borrow.Author.Rules.{rules}
 use Rattle.pairs.proofs.lending.Lenders.with_pair.Goals as goal
 
 pub returns : goal.returns

@@ -1,10 +1,9 @@
 -- `writer::renaming::Renaming::by_chain` meets its contract: before turn x the qubits of the wires below x are stored. Assumes nothing.
-use Prim.Native.Nat.{ℕ, ◌-◌, ◌≤◌, ◌<◌}
-use mathlib.Core.Path.{◌≡◌, refl}
+use mathlib.Core.Path.{refl}
 use native.Mathlib.Nat.{not-suc-le-zero}
 use native.Mathlib.Omega.{arith}
 use borrow.Author.Rules.{rules}
-use lib.ListN.{length, get_or, length-set}
+use lib.ListN.{length-set}
 use Rattle.bits.proofs.Lists.{each_eq, filled}
 use Rattle.circuits.specs.Limits.{most_wires}
 use Rattle.writer.specs.Chains.{qubit_of}

@@ -1,11 +1,7 @@
 -- `writer::renaming::Renaming::by_chain` meets its contract: before turn x the qubits of the wires below x are stored. Assumes nothing.
 use Prim.Native.Nat.{ℕ, ◌-◌, ◌≤◌, ◌<◌}
-use mathlib.Core.Path.{◌≡◌, refl}
-use native.Mathlib.Nat.{not-suc-le-zero}
-use native.Mathlib.Omega.{arith}
-use borrow.Author.Rules.{rules}
-use lib.ListN.{length, get_or, length-set}
-use Rattle.bits.proofs.Lists.{each_eq, filled}
+use mathlib.Core.Path.{◌≡◌}
+use lib.ListN.{length, get_or}
 use Rattle.circuits.specs.Limits.{most_wires}
 use Rattle.writer.specs.Chains.{qubit_of}
 use Rattle.writer.proofs.renaming.Renaming.by_chain.Given as goal
