@@ -1,4 +1,6 @@
 // The listing of a circuit: the pairs that are chosen greedily from its table, put into a lent buffer as text.
+#![tactic(auto)]
+
 ghost use Rattle.std.specs.Prelude.{◌≡◌, false, ◌+◌, ◌≤◌, length};
 ghost use Rattle.writing.specs.Writing.{Placed, Wrote, Written};
 ghost use Rattle.table.specs.Calls.{wrong_width};

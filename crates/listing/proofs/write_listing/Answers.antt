@@ -4,14 +4,11 @@ use native.Mathlib.Omega.{arith}
 use Rattle.basics.specs.Outcome.{handing}
 use Rattle.table.specs.Starting.{replied_at_start}
 use Rattle.listing.proofs.Choices.{started_right, listing_printed, refusal_printed}
-use borrow.Author.Rules.{rules}
 use Rattle.listing.proofs.write_listing.Goals as goal
 
-pub write_choice-requires : goal.write_choice-requires
-write_choice-requires c = let started = c.start-started in (
-      started_right _ (sym started.ensures.0 ∙ ap (λ a. handing started.result.table (replied_at_start a)) c.in-Done.is),
-      omega arith,
-    )
+pub write_choice-requires-clause-table_value : goal.write_choice-requires-clause-table_value
+write_choice-requires-clause-table_value c = let started = c.start-started in
+    started_right _ (sym started.ensures.0 ∙ ap (λ a. handing started.result.table (replied_at_start a)) c.in-Done.is)
 
 pub returns-in-Done : goal.returns-in-Done
 returns-in-Done c = let started = c.start-started in

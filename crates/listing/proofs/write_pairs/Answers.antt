@@ -1,18 +1,11 @@
 -- `listing::write_pairs` meets its contract. The loop's invariant: the lines of the pairs from here on are still to be written.
 -- Assumes nothing.
-use Prim.Native.Nat.{◌-◌, ◌≤◌}
 use mathlib.Core.Path.{ap}
 use native.Mathlib.Omega.{arith}
-use borrow.Author.Rules.{rules}
-use lib.ListN.{drop}
-use Rattle.writing.proofs.Remaining.{Remaining, remaining_start, remaining_placed, remaining_end}
-use Rattle.choosers.specs.Results.{first_pairs}
+use Rattle.writing.proofs.Remaining.{remaining_placed, remaining_end}
 use Rattle.choosers.proofs.HandedLists.{pair_next, pairs_over}
 use Rattle.listing.specs.Printing.{pair_lines}
 use Rattle.listing.proofs.write_pairs.Goals as goal
-
-pub loop-i-init : goal.loop-i-init
-loop-i-init c = (search rules, remaining_start c.requires.list_in_bounds)
 
 pub loop-i-preserved : goal.loop-i-preserved
 loop-i-preserved c = (
@@ -22,9 +15,6 @@ loop-i-preserved c = (
       let next = pair_next c.args.list.pairs c.args.list.length c.requires.sized.held turn.i _ more in
       remaining_placed _ c.put_pair-to.ensures (rw next at turn.invariant.1),
 )
-
-pub shape_of-out : goal.shape_of-out
-shape_of-out c = c.loop-i.invariant.1.same
 
 pub returns : goal.returns
 returns c = remaining_end (ap pair_lines (pairs_over c.args.list.pairs c.args.list.length c.requires.sized.held _ c.loop-i-test.false)) c.loop-i.invariant.1

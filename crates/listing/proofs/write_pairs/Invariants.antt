@@ -1,13 +1,9 @@
 -- `listing::write_pairs` meets its contract. The loop's invariant: the lines of the pairs from here on are still to be written.
 -- Assumes nothing.
 use Prim.Native.Nat.{◌-◌, ◌≤◌}
-use mathlib.Core.Path.{ap}
-use native.Mathlib.Omega.{arith}
-use borrow.Author.Rules.{rules}
 use lib.ListN.{drop}
-use Rattle.writing.proofs.Remaining.{Remaining, remaining_start, remaining_placed, remaining_end}
+use Rattle.writing.proofs.Remaining.{Remaining}
 use Rattle.choosers.specs.Results.{first_pairs}
-use Rattle.choosers.proofs.HandedLists.{pair_next, pairs_over}
 use Rattle.listing.specs.Printing.{pair_lines}
 use Rattle.listing.proofs.write_pairs.Given as goal
 
