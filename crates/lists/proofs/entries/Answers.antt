@@ -1,16 +1,11 @@
 -- `lists::entries` meets its contract: past the last entry there is none. Assumes nothing.
-use mathlib.Core.Path.{◌≡◌, refl, sym, ap, ◌∙◌}
+use mathlib.Core.Path.{◌≡◌, sym, ap, ◌∙◌}
 use mathlib.Core.List.{map}
 use native.Mathlib.Omega.{arith}
 use lib.ListN.{length}
 use lib.Seq.{take_all}
 use Rattle.choosers.specs.Results.{most_pairs, numbers_of}
 use Rattle.lists.proofs.entries.Goals as goal
-
-pub returns-then-list-lt-MOST : goal.returns-then-list-lt-MOST
-returns-then-list-lt-MOST c = let pairs = c.args.list.pairs in
-    let held : length pairs ≡ most_pairs = c.well_formed.0.1.1.0.1.0.1 in
-    (omega arith, omega arith, refl)
 
 pub returns-else-list-lt-MOST : goal.returns-else-list-lt-MOST
 returns-else-list-lt-MOST c = let list = c.args.list in

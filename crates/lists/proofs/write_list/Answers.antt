@@ -25,9 +25,6 @@ loop-i-preserved c = (
       remaining_placed _ c.write_record-to.ensures (rw next at c.loop-i.invariant.1),
 )
 
-pub shape_of-out : goal.shape_of-out
-shape_of-out c = c.loop-i.invariant.1.same
-
 pub returns : goal.returns
 returns c = let called = c.entries-count in
     let pairs = c.args.list.pairs in
