@@ -13,9 +13,8 @@ $(foreach tool,rt cargo,$(if $(shell command -v $(tool) 2>/dev/null),,\
   $(error $(tool) is not on the PATH: $(FROM_$(tool)))))
 
 run:
-	@mkdir -p target
 	@echo "Proving $(PROGRAMS) and what they rest on (minutes the first time) ..." >&2
-	@rt check $(PROGRAMS) >target/run.log 2>&1 || { cat target/run.log; exit 1; }
+	@tests/build $(PROGRAMS)
 	@echo "$(SAMPLE):"
 	@target/bin/show <$(SAMPLE)
 	@echo "What greedy chooses:"

@@ -1,6 +1,6 @@
 /* Compiles a circuit of three wires on two qubits and prints the bytes of the dynamic circuit.
  *
- *     rt staticlib thaksipho
+ *     tests/build thaksipho
  *     cc -Iinclude examples/compile_a.c target/staticlib/libthaksipho.a -o compile_a
  */
 #include <stdio.h>

@@ -1,6 +1,6 @@
 /* Thaksipho: qubit reuse for quantum circuits, proved. The calls of libthaksipho.a.
  *
- * The archive is written by `rt staticlib thaksipho` to target/staticlib, for Linux on x86-64. It needs
+ * The archive is written by `tests/build thaksipho` to target/staticlib, for Linux on x86-64. It needs
  * memcpy and memset and nothing else. examples/compile_a.c is a whole program.
  *
  * WHO OWNS WHAT. Every buffer is the caller's, before, during and after a call. The library allocates

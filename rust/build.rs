@@ -1,4 +1,4 @@
-//! Links the static library that `rt staticlib thaksipho` writes.
+//! Links the static library that `tests/build thaksipho` writes.
 
 use std::path::Path;
 use std::process::exit;
