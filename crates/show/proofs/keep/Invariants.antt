@@ -1,6 +1,6 @@
 -- `show::keep` is safe and ends. The loop's invariant: as many bytes are kept as are passed. The measure is the bytes left.
 -- Assumes nothing.
-use Rattle.std.proofs.Common.{◌≡◌, ◌+◌, ◌-◌, length, refl, ◌∙◌, arith, length-set}
+use Rattle.std.proofs.Common.{◌≡◌, ◌+◌, ◌-◌, length}
 use Rattle.show.proofs.keep.Given as goal
 
 abbrev pub invariant-loop-i : goal.invariant-loop-i
