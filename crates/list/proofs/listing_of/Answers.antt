@@ -4,7 +4,6 @@ use Rattle.writing.proofs.Rows.{placed_written, written_front}
 use Rattle.writing.proofs.Puts.{placed_within}
 use Rattle.listing.specs.Printing.{longest_listing}
 use Rattle.listing.proofs.Lengths.{printed-length}
-use borrow.Author.Rules.{rules}
 use Rattle.list.proofs.listing_of.Goals as goal
 
 pub returns : goal.returns
