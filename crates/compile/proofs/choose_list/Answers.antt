@@ -5,7 +5,6 @@ use Rattle.writing.proofs.Puts.{placed_within}
 use Rattle.writing.proofs.Rows.{placed_written, written_front}
 use Rattle.pairs.specs.Listing.{deciding_list_bytes}
 use Rattle.compile.proofs.Chosen.{list_chosen, chosen_short}
-use borrow.Author.Rules.{rules}
 use Rattle.compile.proofs.choose_list.Goals as goal
 
 pub returns : goal.returns

@@ -7,21 +7,19 @@ use Rattle.circuits.specs.Limits.{most_wires}
 use Rattle.writer.specs.Compiling.{compiling_of}
 use Rattle.compile.specs.Running.{wires_told}
 use Rattle.compile.proofs.Answers.{few_wires, bytes_fit}
-use borrow.Author.Rules.{rules}
 use Rattle.compile.proofs.compile.Goals as goal
 
 pub slice_bounds-out-end : goal.slice_bounds-out-end
-slice_bounds-out-end c = let called = c.compile_into-answer in
+slice_bounds-out-end g c =
+    let called = c.compile_into-answer in
     omega (arith, bytes_fit _ _ _ _ (sym (ap compiling_of c.in-Done.is) ∙ called.ensures.tells))
 
 pub slice_bounds-write_file-end : goal.slice_bounds-write_file-end
-slice_bounds-write_file-end c = let called = c.compile_into-answer in
+slice_bounds-write_file-end g c =
+    let called = c.compile_into-answer in
     sym (length-take-le _ _ (omega (arith, bytes_fit _ _ _ _ (sym (ap compiling_of c.in-Done.is) ∙ called.ensures.tells))))
 
 pub print_answer-requires : goal.print_answer-requires
-print_answer-requires c = let called = c.compile_into-answer in
+print_answer-requires g c =
+    let called = c.compile_into-answer in
     subst (λ o. wires_told o ≤ most_wires) (sym called.ensures.tells ∙ ap compiling_of c.in-Done.is) (few_wires _ _ _)
-
-pub print_answer-requires-in-Refused : goal.print_answer-requires-in-Refused
-print_answer-requires-in-Refused c = let called = c.compile_into-answer in
-    subst (λ o. wires_told o ≤ most_wires) (sym called.ensures.tells) (few_wires _ _ _)

@@ -1,7 +1,6 @@
 -- `compile::compile_into` meets its contract: there is room for any output. Assumes nothing.
 use Rattle.writer.proofs.Compiles.{compiled_to}
 use Rattle.compile.proofs.Files.{room_enough}
-use borrow.Author.Rules.{rules}
 use Rattle.compile.proofs.compile_into.Goals as goal
 
 pub returns : goal.returns

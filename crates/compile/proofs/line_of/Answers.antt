@@ -10,29 +10,30 @@ use Rattle.texts.proofs.Lengths.{refusal_length, counts_length}
 use Rattle.circuits.specs.Limits.{most_wires}
 use Rattle.writer.specs.Compiling.{compiling_of}
 use Rattle.compile.specs.Running.{wires_told, answer_line}
-use borrow.Author.Rules.{rules}
 use Rattle.compile.proofs.line_of.Goals as goal
 
 pub overflow_add-qubits : goal.overflow_add-qubits
-overflow_add-qubits c = let few = subst (λ a. wires_told (compiling_of a) ≤ most_wires) c.in-Done.is c.requires.answer_bound in
+overflow_add-qubits c =
+    let few = subst (λ a. wires_told (compiling_of a) ≤ most_wires) c.in-Done.is c.requires.answer_bound in
     omega arith
 
 pub returns-in-Done : goal.returns-in-Done
-returns-in-Done c = let put = c.put_compiled.ensures in
-    let told = c.answer-1.given in
-    let few = subst (λ a. wires_told (compiling_of a) ≤ most_wires) told.1 c.requires.answer_bound in
-    let counts = told.0.0 in
+returns-in-Done c =
+    let put = c.put_compiled.ensures in
+    let few = subst (λ a. wires_told (compiling_of a) ≤ most_wires) c.in-Done.is c.requires.answer_bound in
+    let counts = c.in-Done.counts in
     let short =
     counts_length (counts.qubits + counts.pairs) counts.qubits counts.pairs (text " bytes ") counts.bytes
     (omega arith) (omega arith) (omega arith) (omega arith) (omega arith) in (
       placed_within put (omega arith),
-      written_front (placed_written put longest_counts short (omega arith)) ∙ ap (λ a. answer_line (compiling_of a)) (sym told.1),
+      written_front (placed_written put longest_counts short (omega arith)) ∙ ap (λ a. answer_line (compiling_of a)) (sym c.in-Done.is),
     )
 
 pub returns-in-Refused : goal.returns-in-Refused
-returns-in-Refused c = let put = c.put_refusal.ensures in
-    let told = c.answer-in-Refused-1.given in
-    let short = refusal_length told.0.0.number told.0.0.place (omega arith) (omega arith) in (
+returns-in-Refused c =
+    let put = c.put_refusal.ensures in
+    let r = c.in-Refused.r in
+    let short = refusal_length r.number r.place (omega arith) (omega arith) in (
       placed_within put (omega arith),
-      written_front (placed_written put longest_counts (omega arith) (omega arith)) ∙ ap (λ a. answer_line (compiling_of a)) (sym told.1),
+      written_front (placed_written put longest_counts (omega arith) (omega arith)) ∙ ap (λ a. answer_line (compiling_of a)) (sym c.in-Refused.is),
     )
