@@ -62,6 +62,7 @@ fn marks_left(rows: &[Row; Table::ROWS], width: u8, given: Row, taker: Wire) -> 
 
 // Tries the takers of one lender, rising. Its own marks are given, and its row is empty. Most lenders have no marks left in the later
 // rounds, so that is tested once and not for each taker.
+#[tactic(auto, using(crate::proofs::Scores::tries_none))]
 fn try_takers(table: Table, rows: &[Row; Table::ROWS], given: Row, lender: Wire, best: Best) -> Best
     requires table_value { wrong_width table ≡ false }
     requires rows_value { rows.now ≡ other_rows table lender.0 }

@@ -51,6 +51,7 @@ fn is_static(kind: u8) -> bool
 }
 
 // A width of 1 to the most wires, or 3.
+#[tactic(auto, unfolding(crate::specs::Reading::width_read))]
 fn header_of(width: u8) -> Header
     ensures { header_read result ≡ width_read width }
 {

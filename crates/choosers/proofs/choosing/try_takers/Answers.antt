@@ -1,6 +1,5 @@
 -- `choosers::choosing::try_takers` meets its contract: before each turn the takers below have been tried. Assumes nothing.
 use mathlib.Core.Path.{◌≡◌, refl, ap, ◌∙◌}
-use native.Mathlib.Nat.{le_refl}
 use native.Mathlib.Numerals.{add-one}
 use native.Mathlib.Omega.{arith}
 use borrow.Author.Rules.{rules}
@@ -10,12 +9,9 @@ use Rattle.table.specs.Marks.{counts}
 use Rattle.choosers.specs.Trying.{try_pair, try_takers, score_in}
 use Rattle.choosers.specs.Results.{best_said}
 use Rattle.choosers.proofs.YesPairs.{fits}
-use Rattle.choosers.proofs.Scores.{tries_yes, tries_not, tries_none}
+use Rattle.choosers.proofs.Scores.{tries_yes, tries_not}
 use Rattle.choosers.proofs.choosing.try_takers.Goals as goal
 use Rattle.choosers.proofs.choosing.try_takers.Goals.{then-given-taker-eq1, else-given-taker-eq1}
-
-pub returns-then-given-eq0 : goal.returns-then-given-eq0
-returns-then-given-eq0 c = tries_none c.args.table c.requires.table_value c.args.lender.0 _ c.args.given c.requires.rows_value c.requires.given_value c.if-given-eq0.true _ (le_refl _) _
 
 pub loop-taker-init : goal.loop-taker-init
 unfolding try_takers

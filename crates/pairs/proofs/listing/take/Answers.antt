@@ -4,8 +4,5 @@ use native.Mathlib.Omega.{arith}
 use Rattle.table.proofs.CleanOffers.{same_offered}
 use Rattle.pairs.proofs.listing.take.Goals as goal
 
-pub returns-then-index-eq0 : goal.returns-then-index-eq0
-returns-then-index-eq0 c = c.offer.ensures.0
-
 pub returns : goal.returns
 returns c = c.offer_clean.ensures.0 ∙ same_offered c.args.table c.args.lender.0 c.args.taker.0 (c.requires (omega arith))

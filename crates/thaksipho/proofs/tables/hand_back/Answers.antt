@@ -10,10 +10,10 @@ use Rattle.thaksipho.proofs.tables.hand_back.Goals as goal
 
 pub returns-then-out-lt-BYTES : goal.returns-then-out-lt-BYTES
 returns-then-out-lt-BYTES c = let t = c.args.table in
-    refusal_worded c.refusal_word.ensures (no_room_for t (rows_held t.rows c.well_formed.0.1.1.1.0) _ c.if-out-lt-BYTES.true) (omega arith)
+    refusal_worded c.refusal_word.ensures (no_room_for t (rows_held t.rows c.well_formed.0.1.1.1.0) _ (omega arith)) (omega arith)
 
 pub returns : goal.returns
 returns c = let t = c.args.table in
     let many = rows_held t.rows c.well_formed.0.1.1.1.0 in
     let size = length-table_bytes t many in
-    worded (settled_done (room_for t many _ c.if-out-lt-BYTES.false) (placed_wrote c.write_table.ensures (omega arith))) refl
+    worded (settled_done (room_for t many _ (omega arith)) (placed_wrote c.write_table.ensures (omega arith))) refl
