@@ -1,5 +1,6 @@
 -- `circuits::judging::judge_measurement` meets its contract: what holds of a gate's line, then the bit's tests.
 -- Assumes nothing.
+use native.Mathlib.Omega.{arith}
 use mathlib.Core.Path.{sym, ap, ◌∙◌}
 use borrow.Author.Tests.{le-leb, lt-leb, eq-eqb, ne_eqb}
 use Rattle.circuits.specs.Judging.{verdict_of, judge_measurement}
@@ -8,14 +9,14 @@ use Rattle.circuits.proofs.judging.judge_measurement.Goals as goal
 pub returns-then-bits-bit : goal.returns-then-bits-bit
 unfolding judge_measurement
 returns-then-bits-bit c = c.at_fault.ensures
-    ∙ rw (sym (c.judge_gate.ensures c.args.uses.now) ∙ ap verdict_of c.in-Passed.is, le-leb _ _ c.if-bits-bit.true)
+    ∙ rw (sym (c.judge_gate.ensures c.args.uses.now) ∙ ap verdict_of c.in-Passed.is, le-leb c.args.bits c.args.bit.0 (omega arith))
 
 pub returns-then-state_at-eq-USED : goal.returns-then-state_at-eq-USED
 unfolding judge_measurement
 returns-then-state_at-eq-USED c = c.at_fault-then-state_at-eq-USED.ensures
     ∙ rw (
       sym (c.judge_gate.ensures c.args.uses.now) ∙ ap verdict_of c.in-Passed.is,
-      lt-leb _ _ c.if-bits-bit.false,
+      lt-leb c.args.bits c.args.bit.0 (omega arith),
       eq-eqb _ _ (sym c.state_at.ensures ∙ c.if-state_at-eq-USED.true),
     )
 
@@ -27,6 +28,6 @@ pub returns-else-state_at-eq-USED : goal.returns-else-state_at-eq-USED
 unfolding judge_measurement
 returns-else-state_at-eq-USED c = rw (
   sym (c.judge_gate.ensures c.args.uses.now) ∙ ap verdict_of c.in-Passed.is,
-  lt-leb _ _ c.if-bits-bit.false,
+  lt-leb c.args.bits c.args.bit.0 (omega arith),
   ne_eqb _ _ (λ e. c.if-state_at-eq-USED.false (c.state_at.ensures ∙ e)),
 )
