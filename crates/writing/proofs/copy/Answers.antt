@@ -26,4 +26,4 @@ pub shape_of-out : goal.shape_of-out
 shape_of-out c = c.loop-i.invariant.1.same
 
 pub returns : goal.returns
-returns c = remaining_end (drop_of_length-le c.args.bytes.now c.loop-i-test.false) c.loop-i.invariant.1
+returns c = remaining_end (drop_of_length-le c.args.bytes.now (omega arith)) c.loop-i.invariant.1

@@ -12,8 +12,8 @@ loop-x-init c = (omega arith, least_first c.args.candidates.now)
 pub loop-x-preserved : goal.loop-x-preserved
 loop-x-preserved c = let l = c.loop-x in
     elim c.if-candidates-x.branch [
-      | then-candidates-x w ↦ (omega arith, rw w.lowest-is (least_lower l.invariant.1 w.if-candidates-x.true))
-      | else-candidates-x w ↦ (omega arith, rw w.lowest-is (least_other l.invariant.1 w.if-candidates-x.false))
+      | then-candidates-x w ↦ (omega arith, rw w.lowest-is (least_lower l.invariant.1 (omega arith)))
+      | else-candidates-x w ↦ (omega arith, rw w.lowest-is (least_other l.invariant.1 (omega arith)))
     ]
 
 pub returns : goal.returns
