@@ -22,7 +22,7 @@
  *     Where the length is 0 the pointer is not followed and may be NULL;
  *   - `out` overlaps none of the other buffers of the same call (those that are only read may overlap);
  *   - nobody else writes to the buffers, or reads `out`, while the call runs;
- *   - there is stack enough: for thaksipho_compile 21 kilobytes, for the others three
+ *   - there is stack enough: for thaksipho_compile 21 kilobytes and some more, for the others three
  *     (docs/PERFORMANCE.md has what was measured).
  * All else is answered: any bytes, of any length, are a circuit, a pair list or a table, or are refused.
  *
