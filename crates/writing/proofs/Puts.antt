@@ -8,6 +8,7 @@ use native.Mathlib.Omega.{arith}
 use native.Mathlib.Numerals.{add-one}
 use lib.ListN.{length, take, drop, set, length-append, length-take, length-drop, take-append-drop, drop_of_length-le}
 use lib.Seq.{set_split, take_at, drop_at, drop-drop, length-take-le}
+use borrow.Rule.Slice.PartMut.{put_mid}
 use borrow.Author.Tests.{le-leb, lt-leb, le-ltb, lt-ltb, leb-true}
 use Rattle.basics.specs.Choice.{pick}
 use Rattle.basics.specs.Outcome.{Outcome, done, refused}
@@ -91,6 +92,14 @@ module _ {old : List ℕ} {at : ℕ} {xs new : List ℕ} {to : ℕ} where
     end = rw (le-leb (at + length xs) (length old) l) w.end;
   }
 
+  -- a part of the buffer that was written over
+  pub mid_placed : {k : ℕ} {ys : List ℕ} → ys ≡ xs → k ≡ length xs → new ≡ put_mid at k old ys → to ≡ at + length xs
+      → at + length xs ≤ length old → Placed old at xs new to
+  unfolding put
+  mid_placed same size e end l =
+      let behind = ap (λ (z : List ℕ). take at old ++ (xs ++ z)) (drop-drop (length xs) at old) in
+      wrote_placed (record { holds = e ∙ rw (same, size) behind; end = end }) l
+
 -- where there is not, nothing is stored and the place stays
 pub no_room : {old : List ℕ} {at : ℕ} {xs : List ℕ} → length old < at + length xs → Placed old at xs old at
 no_room {old} {at} {xs} l = record {
@@ -134,9 +143,6 @@ module _ {old : List ℕ} {at : ℕ} {xs new : List ℕ} {to : ℕ} (p : Placed 
       go : (b : Bool) → fits old at xs ≡ b → pick b (at + length xs) at ≤ length old
       go true e = leb-true (at + length xs) (length old) e
       go false e = l
-
-  pub placed_front : at ≤ length old → to ≡ length (take to new)
-  placed_front l = sym (length-take-le to new (placed_within l))
 
 -- nothing is always placed
 pub placed_none : {old : List ℕ} {at : ℕ} → Placed old at [] old at

@@ -1,45 +1,29 @@
 // Bytes and numbers put into a lent buffer. One function stores; every writer of records and texts goes by it.
 #![tactic(auto)]
 
-ghost use Rattle.std.specs.Prelude.{length, ◌+◌, ◌≤◌};
-ghost use Rattle.writing.specs.Writing.{Placed, Wrote};
+ghost use Rattle.writing.specs.Writing.{Placed};
 ghost use Rattle.writing.specs.Decimals.{decimal};
-
-// Stores the bytes one after the other, where there is room for all of them.
-fn copy(out: &mut [u8], at: usize, bytes: &[u8]) -> usize
-    requires { at + length bytes.now ≤ length out.old }
-    ensures { Wrote out.old at bytes.now out.new result }
-{
-    let count = bytes.len();
-    let mut i = 0;
-    let mut to = at;
-    while i < count {
-        out[to] = bytes[i];
-        to += 1;
-        i += 1;
-    }
-    to
-}
 
 // Puts bytes into a buffer from a place on and gives the place after them. Where there is not room for all of
 // them nothing is stored and the place stays.
+#[tactic(auto, using(crate::proofs::Puts::mid_placed))]
 pub fn put_bytes(out: &mut [u8], at: usize, bytes: &[u8]) -> usize
     ensures { Placed out.old at bytes.now out.new result }
 {
     let count = bytes.len();
-    if out.len() < count {
+    if out.len() < count || out.len() - count < at {
         return at;
     }
-    if out.len() - count < at {
-        return at;
-    }
-    copy(out, at, bytes)
+    let to = at + count;
+    out[at..to].copy_from_slice(bytes);
+    to
 }
 
 // The digits of the largest number.
 const MOST_DIGITS: usize = 20;
 
-// Puts a number in decimal into a buffer as `put_bytes` puts bytes. Its digits are found from the last one on.
+// Puts a number in decimal into a buffer as `put_bytes` puts bytes. Its digits are found from the last one on. Not by `InlineText` of
+// `std`, which was tried and did not prove: by its contract the text may be cut even where it fits.
 pub fn put_number(out: &mut [u8], at: usize, n: usize) -> usize
     ensures { Placed out.old at (decimal n) out.new result }
 {
