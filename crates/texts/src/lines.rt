@@ -26,10 +26,11 @@ fn instruction_parts(i: Instruction) -> Parts
     match i {
         Instruction::Reset(_) => Parts { from: 1, stop: 2 },
         Instruction::Measurement(_, _) => Parts { from: 1, stop: 3 },
-        Instruction::Gate(_, _) => Parts { from: 0, stop: 2 },
-        Instruction::AngledGate(_, _, _) => Parts { from: 0, stop: 2 },
-        Instruction::TwoLineGate(_, _, _) => Parts { from: 0, stop: 3 },
-        Instruction::AngledTwoLineGate(_, _, _, _) => Parts { from: 0, stop: 3 },
+        Instruction::Gate(_, _) | Instruction::AngledGate(_, _, _) => Parts { from: 0, stop: 2 },
+        Instruction::TwoLineGate(_, _, _) | Instruction::AngledTwoLineGate(_, _, _, _) => Parts {
+            from: 0,
+            stop: 3,
+        },
     }
 }
 
@@ -44,27 +45,27 @@ fn record_parts(r: Record) -> Parts
     }
 }
 
-fn put_instruction_name(out: &mut [u8], at: usize, i: Instruction) -> usize
-    ensures { Placed out.old at (instruction_name i) out.new result }
+fn instruction_name(i: Instruction) -> &'static [u8]
+    ensures { result.now ≡ instruction_name i }
 {
     match i {
-        Instruction::Reset(_) => writing::put_bytes(out, at, b" reset"),
-        Instruction::Measurement(_, _) => writing::put_bytes(out, at, b" measurement"),
-        Instruction::Gate(_, _) => writing::put_bytes(out, at, b" gate"),
-        Instruction::AngledGate(_, _, _) => writing::put_bytes(out, at, b" gate"),
-        Instruction::TwoLineGate(_, _, _) => writing::put_bytes(out, at, b" gate"),
-        Instruction::AngledTwoLineGate(_, _, _, _) => writing::put_bytes(out, at, b" gate"),
+        Instruction::Reset(_) => b" reset",
+        Instruction::Measurement(_, _) => b" measurement",
+        Instruction::Gate(_, _)
+        | Instruction::AngledGate(_, _, _)
+        | Instruction::TwoLineGate(_, _, _)
+        | Instruction::AngledTwoLineGate(_, _, _, _) => b" gate",
     }
 }
 
-fn put_name(out: &mut [u8], at: usize, r: Record) -> usize
-    ensures { Placed out.old at (name_of r) out.new result }
+fn name_of(r: Record) -> &'static [u8]
+    ensures { result.now ≡ name_of r }
 {
     match r {
-        Record::StaticWidth(_) => writing::put_bytes(out, at, b" static width"),
-        Record::DynamicWidth(_, _) => writing::put_bytes(out, at, b" dynamic width"),
-        Record::Step(i) => put_instruction_name(out, at, i),
-        Record::Reuse(_, _) => writing::put_bytes(out, at, b" reuse pair"),
+        Record::StaticWidth(_) => b" static width",
+        Record::DynamicWidth(_, _) => b" dynamic width",
+        Record::Step(i) => instruction_name(i),
+        Record::Reuse(_, _) => b" reuse pair",
     }
 }
 
@@ -82,12 +83,9 @@ fn put_numbers(out: &mut [u8], at: usize, numbers: &[u8]) -> usize
     requires { at + spaced_room numbers.now ≤ length out.old }
     ensures { Written out.old at (spaced_room numbers.now) (spaced numbers.now) out.new result }
 {
-    let count = numbers.len();
     let mut to = at;
-    let mut i = 0;
-    while i < count {
-        to = put_spaced(out, to, numbers[i]);
-        i += 1;
+    for number in numbers {
+        to = put_spaced(out, to, *number);
     }
     to
 }
@@ -97,7 +95,7 @@ fn put_angle(out: &mut [u8], at: usize, angle: &[u8]) -> usize
     requires { at + angle_room angle.now ≤ length out.old }
     ensures { Written out.old at (angle_room angle.now) (angle_text angle.now) out.new result }
 {
-    if angle.len() == 0 {
+    if angle.is_empty() {
         return at;
     }
     let to = writing::put_bytes(out, at, b" angle");
@@ -111,7 +109,7 @@ fn write_line(line: &mut [u8], place: usize, r: Record, numbers: &[u8], angle: &
     ensures { Written line.old 0 longest_line (line_of place r) line.new result }
 {
     let placed = writing::put_number(line, 0, place);
-    let named = put_name(line, placed, r);
+    let named = writing::put_bytes(line, placed, name_of(r));
     let numbered = put_numbers(line, named, numbers);
     let angled = put_angle(line, numbered, angle);
     writing::put_bytes(line, angled, b"\n")
@@ -122,13 +120,10 @@ pub fn put_line(out: &mut [u8], at: usize, place: usize, r: Record) -> usize
     ensures { Placed out.old at (line_of place r) out.new result }
 {
     let encoded = records::encode(r);
-    let numbers = encoded.bytes;
-    let angle = encoded.bytes;
-    let end = encoded.length;
     let parts = record_parts(r);
-    let from = parts.from;
-    let stop = parts.stop;
+    let numbers = &encoded.bytes[parts.from..parts.stop];
+    let angle = &encoded.bytes[parts.stop..encoded.length];
     let mut line = [0u8; LONGEST_LINE];
-    let length = write_line(&mut line, place, r, &numbers[from..stop], &angle[stop..end]);
+    let length = write_line(&mut line, place, r, numbers, angle);
     writing::put_bytes(out, at, &line[..length])
 }

@@ -1,5 +1,5 @@
 // The lines of a listing: how many wires, qubits, pairs and trials there are, then each pair; and the line of what was compiled.
-ghost use Rattle.std.specs.Prelude.{◌≡◌, ◌-◌, ◌≤◌, length};
+ghost use Rattle.std.specs.Prelude.{◌≤◌, length};
 ghost use Rattle.writing.specs.Writing.{Placed, Written};
 ghost use Rattle.texts.specs.Listings.{counts_line, summary_line, compiled_line, pair_line, longest_word, longest_counts, longest_pair};
 
@@ -11,45 +11,51 @@ pub const LONGEST_COUNTS: usize = 110;
 // Room for the longest line of a pair.
 pub const LONGEST_PAIR: usize = 17;
 
-// Each pair saves a qubit.
-fn qubits_of(wires: usize, pairs: usize) -> usize
-    ensures { result ≡ wires - pairs }
-{
-    if wires < pairs { 0 } else { wires - pairs }
-}
-
-// A line of counts at the front of a buffer that has room for any: the wires, the qubits, the pairs, and a number behind its word.
-fn write_counts(
-    line: &mut [u8],
+// How many wires come in, how many qubits go out, and how many pairs there are.
+#[derive(Clone, Copy)]
+struct Counts {
     wires: usize,
     qubits: usize,
     pairs: usize,
-    word: &[u8],
-    last: usize,
-) -> usize
+}
+
+// A line of counts at the front of a buffer that has room for any: the counts, and a number behind its word.
+fn write_counts(line: &mut [u8], counts: Counts, word: &[u8], last: usize) -> usize
     requires longest_counts_in_bounds { longest_counts ≤ length line.old }
     requires word_len_bound { length word.now ≤ longest_word }
-    ensures { Written line.old 0 longest_counts (counts_line wires qubits pairs word.now last) line.new result }
+    ensures { Written line.old 0 longest_counts (counts_line counts.wires counts.qubits counts.pairs word.now last) line.new result }
 {
     let named = writing::put_bytes(line, 0, b"wires ");
-    let wide = writing::put_number(line, named, wires);
+    let wide = writing::put_number(line, named, counts.wires);
     let narrowing = writing::put_bytes(line, wide, b" qubits ");
-    let narrow = writing::put_number(line, narrowing, qubits);
+    let narrow = writing::put_number(line, narrowing, counts.qubits);
     let pairing = writing::put_bytes(line, narrow, b" pairs ");
-    let paired = writing::put_number(line, pairing, pairs);
+    let paired = writing::put_number(line, pairing, counts.pairs);
     let ending = writing::put_bytes(line, paired, word);
     let ended = writing::put_number(line, ending, last);
     writing::put_bytes(line, ended, b"\n")
 }
 
-// Puts a listing's first line into a buffer as `put_bytes` puts bytes.
+// Puts a line of counts into a buffer as `put_bytes` puts bytes.
+fn put_counts(out: &mut [u8], at: usize, counts: Counts, word: &[u8], last: usize) -> usize
+    requires { length word.now ≤ longest_word }
+    ensures { Placed out.old at (counts_line counts.wires counts.qubits counts.pairs word.now last) out.new result }
+{
+    let mut line = [0u8; LONGEST_COUNTS];
+    let length = write_counts(&mut line, counts, word, last);
+    writing::put_bytes(out, at, &line[..length])
+}
+
+// Puts a listing's first line into a buffer as `put_bytes` puts bytes. Each pair saves a qubit.
 pub fn put_summary(out: &mut [u8], at: usize, wires: usize, pairs: usize, trials: usize) -> usize
     ensures { Placed out.old at (summary_line wires pairs trials) out.new result }
 {
-    let mut line = [0u8; LONGEST_COUNTS];
-    let qubits = qubits_of(wires, pairs);
-    let length = write_counts(&mut line, wires, qubits, pairs, b" trials ", trials);
-    writing::put_bytes(out, at, &line[..length])
+    let counts = Counts {
+        wires,
+        qubits: wires.saturating_sub(pairs),
+        pairs,
+    };
+    put_counts(out, at, counts, b" trials ", trials)
 }
 
 // Puts the line of what was compiled into a buffer as `put_bytes` puts bytes.
@@ -63,9 +69,12 @@ pub fn put_compiled(
 ) -> usize
     ensures { Placed out.old at (compiled_line wires qubits pairs bytes) out.new result }
 {
-    let mut line = [0u8; LONGEST_COUNTS];
-    let length = write_counts(&mut line, wires, qubits, pairs, b" bytes ", bytes);
-    writing::put_bytes(out, at, &line[..length])
+    let counts = Counts {
+        wires,
+        qubits,
+        pairs,
+    };
+    put_counts(out, at, counts, b" bytes ", bytes)
 }
 
 // The line of a pair at the front of a buffer that has room for any.

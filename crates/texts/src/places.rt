@@ -15,7 +15,7 @@ const CUT: u8 = 2;
 fn is_awaited(number: u8, last: bool) -> bool
     ensures { result ≡ awaited number last }
 {
-    if number == CUT { !last } else { false }
+    number == CUT && !last
 }
 
 // Puts what is printed of a place of `piece` into a buffer as `put_bytes` puts bytes. The piece is a part of an input, `place` is

@@ -5,16 +5,16 @@ use Rattle.writing.proofs.Rows.{written_front}
 use Rattle.texts.proofs.Sizes.{parted}
 use Rattle.texts.proofs.lines.put_line.Goals as goal
 
-pub slice_bounds-write_line-count-2 : goal.slice_bounds-write_line-count-2
-slice_bounds-write_line-count-2 c = let p = parted c.args.r c.encode-encoded.ensures c.record_parts-parts.ensures in
+pub slice_bounds-angle-count : goal.slice_bounds-angle-count
+slice_bounds-angle-count c = let p = parted c.args.r c.encode-encoded.ensures c.record_parts-parts.ensures in
     p.within
 
-pub slice_bounds-write_line-start-2 : goal.slice_bounds-write_line-start-2
-slice_bounds-write_line-start-2 c = let p = parted c.args.r c.encode-encoded.ensures c.record_parts-parts.ensures in
+pub slice_bounds-angle-start : goal.slice_bounds-angle-start
+slice_bounds-angle-start c = let p = parted c.args.r c.encode-encoded.ensures c.record_parts-parts.ensures in
     omega (arith, p.within)
 
-pub slice_bounds-write_line-end-3 : goal.slice_bounds-write_line-end-3
-slice_bounds-write_line-end-3 c = let p = parted c.args.r c.encode-encoded.ensures c.record_parts-parts.ensures in
+pub slice_bounds-angle-end : goal.slice_bounds-angle-end
+slice_bounds-angle-end c = let p = parted c.args.r c.encode-encoded.ensures c.record_parts-parts.ensures in
     omega (arith, p.within, p.end, p.all)
 
 pub write_line-length-requires-clause-numbers_value : goal.write_line-length-requires-clause-numbers_value

@@ -7,15 +7,14 @@ use Rattle.texts.specs.Room.{spaced_byte}
 use Rattle.texts.proofs.Spaces.{spaced_next}
 use Rattle.texts.proofs.lines.put_numbers.Goals as goal
 
-pub loop-i-init : goal.loop-i-init
-loop-i-init c = (omega arith, refl, written_none)
+pub loop-number-init : goal.loop-number-init
+loop-number-init c = (refl, written_none)
 
-pub loop-i-preserved : goal.loop-i-preserved
-loop-i-preserved c = let turn = c.loop-i in
+pub loop-number-preserved : goal.loop-number-preserved
+loop-number-preserved c = let turn = c.loop-number in
     let numbers = c.args.numbers.now in
     let put = c.put_spaced-to.ensures in
-    let room : (turn.i + 1) * spaced_byte ≡ turn.i * spaced_byte + spaced_byte = omega arith in (
-      omega arith,
-      written_length put (omega (arith, written_place turn.invariant.2)) ∙ turn.invariant.1,
-      rw (room, spaced_next numbers turn.i (omega arith)) (written_call turn.invariant.2 put (omega arith)),
+    let room : (turn.number-index + 1) * spaced_byte ≡ turn.number-index * spaced_byte + spaced_byte = omega arith in (
+      written_length put (omega (arith, written_place turn.invariant.1)) ∙ turn.invariant.0,
+      rw (room, spaced_next numbers turn.number-index (omega arith)) (written_call turn.invariant.1 put (omega arith)),
     )
