@@ -8,7 +8,7 @@ use mathlib.Core.List.{List, [], ◌∷◌, map}
 use native.Mathlib.Omega.{arith}
 use native.Mathlib.Numerals.{add-one}
 use lib.ListN.{length, get_or, take, drop, replicate, length-append, length-map, drop_of_length-le, get_or-map}
-use lib.Seq.{take_at, drop-cons, get_or-take, length-take-le}
+use lib.Seq.{take_at, drop-cons, length-take-le}
 use Rattle.basics.specs.Choice.{pick}
 use Rattle.basics.specs.Outcome.{done, refused}
 use Rattle.basics.proofs.Outcomes.{not_refused}
@@ -34,20 +34,21 @@ pairs_back ps =
     there_and_back [] = refl
     there_and_back (q ∷ qs) = ap (λ (rest : List runs.Pair). q ∷ rest) (there_and_back qs)
 
+-- a list has as many pairs as entries are taken
+pub size : (entries : List Pair) (n : ℕ) → n ≤ length entries → length (first_pairs n entries) ≡ n
+size entries n held = length-map (take n entries) numbers_of ∙ length-take-le n entries held
+
 -- the first of the pairs that are left, and none left
-module _ (entries : List Pair) (n : ℕ) (held : n ≤ length entries) where
-  pub size : length (first_pairs n entries) ≡ n
-  size = length-map (take n entries) numbers_of ∙ length-take-le n entries held
+module _ (entries : List Pair) (i : ℕ) where
+  pub pair_next : (d : Pair) → i < length entries
+      → drop i (map numbers_of entries) ≡ numbers_of (get_or entries i d) ∷ drop (i + 1) (map numbers_of entries)
+  pair_next d h =
+      drop-cons (map numbers_of entries) i (numbers_of d) (omega (arith, length-map entries numbers_of))
+      ∙ ap (λ (p : runs.Pair). p ∷ drop (suc i) (map numbers_of entries)) (get_or-map numbers_of entries i d)
+      ∙ ap (λ (k : ℕ). numbers_of (get_or entries i d) ∷ drop k (map numbers_of entries)) (sym (add-one i))
 
-  pub pair_next : (i : ℕ) (d : Pair) → i < n → drop i (first_pairs n entries) ≡ numbers_of (get_or entries i d) ∷ drop (i + 1) (first_pairs n entries)
-  pair_next i d h =
-      drop-cons (first_pairs n entries) i (numbers_of d) (omega (arith, size))
-      ∙ ap (λ (p : runs.Pair). p ∷ drop (suc i) (first_pairs n entries))
-      (get_or-map numbers_of (take n entries) i d ∙ ap numbers_of (get_or-take n entries i d h))
-      ∙ ap (λ (k : ℕ). numbers_of (get_or entries i d) ∷ drop k (first_pairs n entries)) (sym (add-one i))
-
-  pub pairs_over : (i : ℕ) → n ≤ i → drop i (first_pairs n entries) ≡ []
-  pairs_over i h = drop_of_length-le (first_pairs n entries) {i = i} (omega (arith, size))
+  pub pairs_over : length entries ≤ i → drop i (map numbers_of entries) ≡ []
+  pairs_over h = drop_of_length-le (map numbers_of entries) {i = i} (omega (arith, length-map entries numbers_of))
 
 -- greedy's list has room for its entries
 pub greedy_sized : (t : Table) (r : Rounds) → greedy_of t ≡ done r → Sized r.list

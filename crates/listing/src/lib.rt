@@ -19,14 +19,9 @@ fn write_pairs(out: &mut [u8], at: usize, list: PairList) -> usize
     requires list_in_bounds { at + length (pair_lines (pairs_of list)) ≤ length out.old }
     ensures { Wrote out.old at (pair_lines (pairs_of list)) out.new result }
 {
-    let pairs = list.pairs;
-    let count = list.length;
     let mut to = at;
-    let mut i: usize = 0;
-    while i < count {
-        let pair = pairs[i];
+    for pair in &list.pairs[..list.length] {
         to = texts::put_pair(out, to, pair.lender, pair.taker);
-        i += 1;
     }
     to
 }
