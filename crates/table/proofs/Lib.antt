@@ -1,5 +1,6 @@
 pub mod Held
 pub mod RowBits
+pub mod RowBytes
 pub mod TableMarks
 pub mod Judgements
 pub mod Numbers

@@ -9,7 +9,7 @@ use native.Mathlib.Omega.{arith}
 use native.Mathlib.Decide.{dec_lt}
 use borrow.Author.Tests.{le-ltb, ltb-true}
 use lib.Dec.{ltb}
-use lib.ListN.{length, get_or, set, replicate, length-replicate, get_or-replicate, get_or-eq_default}
+use lib.ListN.{length, get_or, set, replicate, length-set, length-replicate, get_or-replicate, get_or-eq_default}
 use lib.Seq.{get_or-set_other}
 use Rattle.basics.specs.Choice.{pick}
 use Rattle.bits.specs.Bits.{digit, pack, each, total, tally}
@@ -57,11 +57,12 @@ module _ (t : Table) where
   pub none_after : (lender taker u : ℕ) → t.width ≤ u → 0 ≡ pack most_wires (mark_after (counts t) lender taker u)
   none_after lender taker u h = nothing_packed most_wires (λ v. stays_no t lender taker u v (lender_far t u v (le-ltb u t.width h)))
 
--- ---- rows that are filled from the front, and are 0 past that
+-- ---- rows that are filled from the front, and are as they were past that
 
-pub record Filling (f : ℕ → ℕ) (u : ℕ) (rows : List ℕ) : Type 0 where
+pub record Filling (f : ℕ → ℕ) (old : List ℕ) (u : ℕ) (rows : List ℕ) : Type 0 where
+  pub size : length rows ≡ length old
   pub front : (j : ℕ) → j < u → get_or rows j 0 ≡ f j
-  pub rest : (j : ℕ) → u ≤ j → get_or rows j 0 ≡ 0
+  pub rest : (j : ℕ) → u ≤ j → get_or rows j 0 ≡ get_or old j 0
 
 -- zeros, and past them 0
 pub zero_at : (n i : ℕ) → get_or {A = ℕ} (replicate n 0) i 0 ≡ 0
@@ -72,25 +73,33 @@ zero_at n i = go (dec_lt i n)
     go (no l) = get_or-eq_default (replicate n 0) 0 {n = i} (omega (arith, length-replicate {A = ℕ} n 0))
 
 module _ (f : ℕ → ℕ) where
-  pub filling_starts : Filling f 0 (replicate most_wires 0)
-  filling_starts = record { front = λ j l. absurd (not-suc-le-zero l); rest = λ j l. zero_at most_wires j }
+  pub filling_starts : (old : List ℕ) → Filling f old 0 old
+  filling_starts old = record { size = refl; front = λ j l. absurd (not-suc-le-zero l); rest = λ j l. refl }
 
-  pub filling_more : (u : ℕ) (rows : List ℕ) (x : ℕ) → u < length rows → Filling f u rows → x ≡ f u → Filling f (u + 1) (set rows u x)
+  pub filling_more : (u : ℕ) {old : List ℕ} (rows : List ℕ) (x : ℕ) → u < length old → Filling f old u rows → x ≡ f u
+      → Filling f old (u + 1) (set rows u x)
   filling_more u rows x l h e = record {
-    front = filled f rows u x l h.front e;
+    size = length-set rows u x ∙ h.size;
+    front = filled f rows u x (omega (arith, h.size)) h.front e;
     rest = λ j m. get_or-set_other rows u j x 0 (λ d. omega arith) ∙ h.rest j (omega arith);
   }
 
   -- with other rows that are the same below u
-  pub filling_same : {g : ℕ → ℕ} (u : ℕ) (rows : List ℕ) → Filling g u rows → ((j : ℕ) → j < u → g j ≡ f j) → Filling f u rows
+  pub filling_same : {g : ℕ → ℕ} (u : ℕ) {old : List ℕ} (rows : List ℕ) → Filling g old u rows → ((j : ℕ) → j < u → g j ≡ f j) → Filling f old u rows
   filling_same u rows h same = record {
+    size = h.size;
     front = λ j l. h.front j l ∙ same j l;
     rest = h.rest;
   }
 
-  pub filling_ends : (w : ℕ) (rows : List ℕ) → length rows ≡ most_wires → Filling f (rows_below w) rows → ((u : ℕ) → w ≤ u → 0 ≡ f u) → rows ≡ each most_wires f
-  filling_ends w rows size h none = each_eq most_wires f rows size (λ u l. go u l (dec_lt u (rows_below w)))
+  -- once all are
+  pub filling_all : (u : ℕ) {old : List ℕ} (rows : List ℕ) → Filling f old u rows → length old ≡ most_wires → most_wires ≤ u → rows ≡ each most_wires f
+  filling_all u rows h size all = each_eq most_wires f rows (h.size ∙ size) (λ j l. h.front j (omega arith))
+
+  -- once those below the width are, and the others stayed 0
+  pub filling_ends : (w : ℕ) (rows : List ℕ) → Filling f (replicate most_wires 0) (rows_below w) rows → ((u : ℕ) → w ≤ u → 0 ≡ f u) → rows ≡ each most_wires f
+  filling_ends w rows h none = each_eq most_wires f rows (h.size ∙ length-replicate {A = ℕ} most_wires 0) (λ u l. go u l (dec_lt u (rows_below w)))
     where
       go : (u : ℕ) → u < most_wires → Dec (u < rows_below w) → get_or rows u 0 ≡ f u
       go u l (yes m) = h.front u m
-      go u l (no m) = h.rest u (omega arith) ∙ none u (below_past w u (omega arith) l)
+      go u l (no m) = h.rest u (omega arith) ∙ zero_at most_wires u ∙ none u (below_past w u (omega arith) l)

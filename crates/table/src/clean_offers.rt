@@ -27,11 +27,9 @@ fn accept_clean(table: Table, lender: Wire, taker: Wire) -> Table
     let given = row_of(table, lender);
     let lending = use_wire(table.width, table.lending, lender);
     let taking = use_wire(table.width, table.taking, taker);
-    let mut rows = [0; Table::ROWS];
-    let mut u: u8 = 0;
-    while u < Table::MOST {
-        rows[u as usize] = row_left(given, table.rows[u as usize], taker);
-        u += 1;
+    let mut rows = table.rows;
+    for row in rows.iter_mut() {
+        *row = row_left(given, *row, taker);
     }
     rows[lender.0 as usize] = 0;
     Table {

@@ -16,10 +16,8 @@ fn marks_of(table: Table) -> u32
     let takers = unused(table.width, table.taking);
     let end = rows_below(table.width);
     let mut n: u32 = 0;
-    let mut u: u8 = 0;
-    while u < end {
-        n += u32::count_ones(counting(lenders, takers, table.rows[u as usize], Wire(u)));
-        u += 1;
+    for u in 0..end {
+        n += counting(lenders, takers, table.rows[u as usize], Wire(u)).count_ones();
     }
     n
 }
@@ -32,10 +30,8 @@ pub fn all_marks(table: Table) -> [Row; Table::ROWS]
     let takers = unused(table.width, table.taking);
     let end = rows_below(table.width);
     let mut rows = [0; Table::ROWS];
-    let mut u: u8 = 0;
-    while u < end {
+    for u in 0..end {
         rows[u as usize] = counting(lenders, takers, table.rows[u as usize], Wire(u));
-        u += 1;
     }
     rows
 }

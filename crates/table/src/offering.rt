@@ -37,22 +37,14 @@ fn is_yes(table: Table, lender: Wire, taker: Wire) -> bool
 pub fn wrong_width(table: Table) -> bool
     ensures { result ≡ wrong_width table }
 {
-    if table.width == 0 {
-        true
-    } else {
-        Table::MOST < table.width
-    }
+    table.width == 0 || Table::MOST < table.width
 }
 
 // Whether the lender or the taker is not below the width.
 fn outside(table: Table, lender: Wire, taker: Wire) -> bool
     ensures { result ≡ outside_width table lender.0 taker.0 }
 {
-    if table.width <= lender.0 {
-        true
-    } else {
-        table.width <= taker.0
-    }
+    table.width <= lender.0 || table.width <= taker.0
 }
 
 // Whether the lender may lend to the taker; no for numbers at or above the width.
@@ -122,10 +114,8 @@ pub fn accept(table: Table, lender: Wire, taker: Wire) -> Table
     let taking = use_wire(table.width, table.taking, taker);
     let end = rows_below(table.width);
     let mut rows = [0; Table::ROWS];
-    let mut u: u8 = 0;
-    while u < end {
+    for u in 0..end {
         rows[u as usize] = row_after(change, table.rows[u as usize], Wire(u));
-        u += 1;
     }
     Table {
         width: table.width,

@@ -23,11 +23,7 @@ pub struct Change {
 pub fn has(row: Row, wire: Wire) -> bool
     ensures { result ≡ bit wire.0 row }
 {
-    if wire.0 < Table::MOST {
-        (row >> wire.0) % 2 == 1
-    } else {
-        false
-    }
+    wire.0 < Table::MOST && (row >> wire.0) % 2 == 1
 }
 
 // The wires below the width.
@@ -45,11 +41,7 @@ fn below(width: u8) -> Row
 pub fn rows_below(width: u8) -> u8
     ensures { result ≡ rows_below width }
 {
-    if width < Table::MOST {
-        width
-    } else {
-        Table::MOST
-    }
+    width.min(Table::MOST)
 }
 
 // A row without the mark of one wire.

@@ -7,9 +7,6 @@ ghost use Rattle.table.specs.TableBytes.{set_at, table_of, table_bytes};
 
 use crate::tables::{Row, Table};
 
-// How many values a byte has.
-const BYTE_VALUES: Row = 256;
-
 // A row or a set of used wires, by its index after the width, of bytes that hold a whole table.
 fn set_at(bytes: &[u8], index: usize) -> Row
     requires index_bound { index ≤ most_wires + 1 }
@@ -17,13 +14,7 @@ fn set_at(bytes: &[u8], index: usize) -> Row
     ensures { result ≡ set_at bytes.now index }
 {
     let at = 1 + Table::ROW_BYTES * index;
-    let mut row: Row = 0;
-    let mut i = Table::ROW_BYTES;
-    while 0 < i {
-        i -= 1;
-        row = row * BYTE_VALUES + bytes[at + i] as Row;
-    }
-    row
+    Row::from_le_bytes([bytes[at], bytes[at + 1], bytes[at + 2], bytes[at + 3]])
 }
 
 // The table that bytes say which hold a whole one: no byte needs a test of its own.
@@ -32,10 +23,8 @@ fn whole_table(bytes: &[u8]) -> Table
     ensures { result ≡ table_of bytes.now }
 {
     let mut rows = [0; Table::ROWS];
-    let mut u = 0;
-    while u < Table::ROWS {
-        rows[u] = set_at(bytes, u);
-        u += 1;
+    for (index, row) in rows.iter_mut().enumerate() {
+        *row = set_at(bytes, index);
     }
     Table {
         width: bytes[0],
@@ -57,25 +46,10 @@ pub fn table_of(bytes: &[u8]) -> Table
     whole_table(bytes)
 }
 
-fn row_bytes(row: Row) -> [u8; Table::ROW_BYTES]
-    ensures { result ≡ bytes_of row_bytes row }
-{
-    let mut bytes = [0; Table::ROW_BYTES];
-    let mut rest = row;
-    let mut i = 0;
-    while i < Table::ROW_BYTES {
-        bytes[i] = (rest % BYTE_VALUES) as u8;
-        rest = rest / BYTE_VALUES;
-        i += 1;
-    }
-    bytes
-}
-
 fn put_row(row: Row, out: &mut [u8], at: usize) -> usize
     ensures { Placed out.old at (bytes_of row_bytes row) out.new result }
 {
-    let bytes = row_bytes(row);
-    writing::put_bytes(out, at, &bytes)
+    writing::put_bytes(out, at, &row.to_le_bytes())
 }
 
 fn store_rows(rows: [Row; Table::ROWS], out: &mut [u8], at: usize) -> usize
@@ -83,10 +57,8 @@ fn store_rows(rows: [Row; Table::ROWS], out: &mut [u8], at: usize) -> usize
     ensures { Wrote out.old at (bytes_of_all row_bytes rows) out.new result }
 {
     let mut to = at;
-    let mut u = 0;
-    while u < Table::ROWS {
-        to = put_row(rows[u], out, to);
-        u += 1;
+    for row in rows {
+        to = put_row(row, out, to);
     }
     to
 }
@@ -107,10 +79,7 @@ fn store_table(table: Table, out: &mut [u8], at: usize) -> usize
 pub fn write_table(table: Table, out: &mut [u8], at: usize) -> usize
     ensures { Placed out.old at (table_bytes table) out.new result }
 {
-    if out.len() < Table::BYTES {
-        return at;
-    }
-    if out.len() - Table::BYTES < at {
+    if out.len() < Table::BYTES || out.len() - Table::BYTES < at {
         return at;
     }
     store_table(table, out, at)

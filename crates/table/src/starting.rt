@@ -28,17 +28,14 @@ pub struct Sets {
 fn set_of(rows: &[Row], wire: Wire) -> Row
     ensures { result ≡ get_or rows.now wire.0 0 }
 {
-    let n = wire.0 as usize;
-    if n < rows.len() {
-        return rows[n];
-    }
-    0
+    rows.get(wire.0 as usize).copied().unwrap_or(0)
 }
 
 // Changes one wire's set.
 fn change_set(rows: &mut [Row], wire: Wire, row: Row)
     ensures { rows.new ≡ set rows.old wire.0 row }
 {
+    // Not by `get_mut`: its contract does not say what the slice holds after the write.
     let n = wire.0 as usize;
     if n < rows.len() {
         rows[n] = row;
@@ -117,11 +114,9 @@ fn start_row(width: u8, row: Row, lender: u8) -> Row
 pub fn table_from(width: u8, sets: Sets) -> Table
     ensures { result ≡ start_from width sets.rows }
 {
-    let mut rows = [0; Table::ROWS];
-    let mut lender: u8 = 0;
-    while lender < Table::MOST {
-        rows[lender as usize] = start_row(width, sets.rows[lender as usize], lender);
-        lender += 1;
+    let mut rows = sets.rows;
+    for (lender, row) in rows.iter_mut().enumerate() {
+        *row = start_row(width, *row, lender as u8);
     }
     Table {
         width,

@@ -1,7 +1,6 @@
--- `table::counting::all_marks` meets its contract: before turn u the rows below u are filled, and the others are 0. Assumes nothing.
-use Prim.Native.Nat.{◌≤◌, ◌-◌}
-use mathlib.Core.Path.{◌≡◌}
-use lib.ListN.{length}
+-- `table::counting::all_marks` meets its contract. The loop's invariant: the rows so far are the marks that count, and the
+-- others are 0. Assumes nothing.
+use lib.ListN.{replicate}
 use Rattle.bits.specs.Bits.{pack}
 use Rattle.table.specs.Limits.{most_wires}
 use Rattle.table.specs.Marks.{counts}
@@ -9,7 +8,4 @@ use Rattle.table.proofs.RowsBelow.{Filling}
 use Rattle.table.proofs.counting.all_marks.Given as goal
 
 abbrev pub invariant-loop-u : goal.invariant-loop-u
-invariant-loop-u l = (l.u ≤ l.end) × (l.end ≤ most_wires) × (length l.rows ≡ most_wires) × Filling (λ lender. pack most_wires (counts l.table lender)) l.u l.rows
-
-abbrev pub decreases-loop-u : goal.decreases-loop-u
-decreases-loop-u l = l.end - l.u
+invariant-loop-u l = Filling (λ lender. pack most_wires (counts l.table lender)) (replicate most_wires 0) l.u l.rows

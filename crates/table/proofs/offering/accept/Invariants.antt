@@ -1,8 +1,6 @@
--- `table::offering::accept` meets its contract: before turn u the rows below u are what the change leaves of them, and the others
+-- `table::offering::accept` meets its contract. The loop's invariant: the rows so far are what the offer leaves, and the others
 -- are 0. Assumes nothing.
-use Prim.Native.Nat.{◌≤◌, ◌-◌}
-use mathlib.Core.Path.{◌≡◌}
-use lib.ListN.{length, get_or}
+use lib.ListN.{get_or, replicate}
 use Rattle.bits.specs.Bits.{pack}
 use Rattle.table.specs.Limits.{most_wires}
 use Rattle.table.specs.Changes.{changed}
@@ -10,7 +8,4 @@ use Rattle.table.proofs.RowsBelow.{Filling}
 use Rattle.table.proofs.offering.accept.Given as goal
 
 abbrev pub invariant-loop-u : goal.invariant-loop-u
-invariant-loop-u l = (l.u ≤ l.end) × (l.end ≤ most_wires) × (length l.rows ≡ most_wires) × Filling (λ j. pack most_wires (changed l.change (get_or l.table.rows j 0) j)) l.u l.rows
-
-abbrev pub decreases-loop-u : goal.decreases-loop-u
-decreases-loop-u l = l.end - l.u
+invariant-loop-u l = Filling (λ j. pack most_wires (changed l.change (get_or l.table.rows j 0) j)) (replicate most_wires 0) l.u l.rows
