@@ -1,8 +1,8 @@
 pub mod Pairs
 pub mod Chains
 pub mod Wires
-pub mod Notes
-pub mod Heads
+pub mod Kept
+pub mod Ready
 pub mod Links
 pub mod Candidates
 pub mod Moves

@@ -15,14 +15,17 @@ use Rattle.circuits.specs.Limits.{most_wires, most_instructions}
 use Rattle.precedence.specs.Lives.{lines_of, touches}
 use Rattle.precedence.specs.Precedence.{holds, on}
 use Rattle.precedence.proofs.Spans.{at_inside}
-use Rattle.writer.specs.Heads.{first_wire, second_wire, headed, NextOn, Tabled, Linked}
-use Rattle.writer.proofs.Wires.{first_in, second_in, headed_each, there, wire_on, wire_off}
+use Rattle.writer.specs.Notes.{first_wire, second_wire, first_at, second_at}
+use Rattle.writer.specs.Heads.{headed, NextOn, Tabled, after_at, Linked}
+use Rattle.writer.specs.declared.heads.After.{After}
+use Rattle.writer.specs.declared.source.Source.{Source}
+use Rattle.writer.proofs.Wires.{first_in, second_in, headed_each, there, wire_on, wire_off, first_tabled, second_tabled}
 
 -- ## The pass from the last back
 
 -- past the last instruction every wire's head is their number
-pub linked_none : {is : List Instruction} {n : ℕ} {indices afterFirsts afterSeconds : List ℕ} → length is ≡ n → indices ≡ replicate most_wires n
-    → Linked is n indices afterFirsts afterSeconds
+pub linked_none : {is : List Instruction} {n : ℕ} {indices : List ℕ} {links : List After} → length is ≡ n → indices ≡ replicate most_wires n
+    → Linked is n indices links
 linked_none {is} {n} {indices} e h = record {
   heads = λ x l. subst (NextOn is x n) (sym (ap (λ z. get_or z x 0) h ∙ get_or-replicate most_wires x n 0 l))
       (record { onward = omega arith; inside = omega arith; between = λ k a b. absurd (omega arith); here = λ l. absurd (omega arith) });
@@ -54,8 +57,8 @@ module _ {is : List Instruction} {x k : ℕ} where
   }
 
 -- one instruction more
-module _ {is : List Instruction} {many k : ℕ} {forms firsts seconds : List ℕ} (tab : Tabled is many forms firsts seconds)
-    (inside : k < many) (few : k < most_instructions) (indices : List ℕ) (size : length indices ≡ most_wires) where
+module _ {is : List Instruction} {s : Source} {k : ℕ} (tab : Tabled is s) (inside : k < s.valid.instructions) (indices : List ℕ)
+    (size : length indices ≡ most_wires) where
   abbrev it : Instruction
   it = (there is k (omega (arith, tab.all))).0
 
@@ -65,32 +68,33 @@ module _ {is : List Instruction} {many k : ℕ} {forms firsts seconds : List ℕ
   named : (x : ℕ) → In x (lines_of it) → x < most_wires
   named x h = tab.named x k (wire_on is k here x h)
 
-  -- what is kept of one of its wires
-  after_more : (wire : Instruction → ℕ) → ((i : Instruction) → In (wire i) (lines_of i)) → ((x : ℕ) → x < most_wires → NextOn is x (k + 1) (get_or indices x 0))
-      → (kept : List ℕ) {new : List ℕ} → length kept ≡ most_instructions → new ≡ set kept k (get_or indices (wire it) 0)
-      → ((j : ℕ) (i : Instruction) → k + 1 ≤ j → get_elem? is j ≡ some i → NextOn is (wire i) (j + 1) (get_or kept j 0))
-      → (j : ℕ) (i : Instruction) → k ≤ j → get_elem? is j ≡ some i → NextOn is (wire i) (j + 1) (get_or new j 0)
-  after_more wire among heads kept {new} sized e rest j i l g = elim (same_or_other j k) [
+  -- what is kept for one of its wires
+  after_more : (wire : Instruction → ℕ) → ((i : Instruction) → In (wire i) (lines_of i)) → (part : After → ℕ)
+      → ((x : ℕ) → x < most_wires → NextOn is x (k + 1) (get_or indices x 0))
+      → (links : List After) {new : List After} {after : After} → length links ≡ most_instructions → new ≡ set links k after → part after ≡ get_or indices (wire it) 0
+      → ((j : ℕ) (i : Instruction) → k + 1 ≤ j → get_elem? is j ≡ some i → NextOn is (wire i) (j + 1) (part (after_at links j)))
+      → (j : ℕ) (i : Instruction) → k ≤ j → get_elem? is j ≡ some i → NextOn is (wire i) (j + 1) (part (after_at new j))
+  after_more wire among part heads links {new} {after} sized e told rest j i l g = elim (same_or_other j k) [
     | inl q ↦ (let same : i ≡ it = cc (ap (get_elem? is) q, here) in
-        subst (λ z. NextOn is (wire i) (z + 1) (get_or new z 0)) (sym q) (subst (λ z. NextOn is (wire z) (k + 1) (get_or new k 0)) (sym same)
-        (subst (NextOn is (wire it) (k + 1)) (sym (ap (λ z. get_or z k 0) e ∙ get_or-set_same kept k _ 0 (omega arith))) (heads (wire it) (named (wire it) (among it))))))
-    | inr d ↦ subst (NextOn is (wire i) (j + 1)) (sym (ap (λ z. get_or z j 0) e ∙ get_or-set_other kept k j _ 0 d)) (rest j i (omega arith) g)
+        subst (λ z. NextOn is (wire i) (z + 1) (part (after_at new z))) (sym q) (subst (λ z. NextOn is (wire z) (k + 1) (part (after_at new k))) (sym same)
+        (subst (NextOn is (wire it) (k + 1)) (sym (ap (λ z. part (after_at z k)) e ∙ ap part (get_or-set_same links k after _ (omega (arith, s.few))) ∙ told))
+        (heads (wire it) (named (wire it) (among it))))))
+    | inr d ↦ subst (NextOn is (wire i) (j + 1)) (sym (ap (λ z. part (after_at z j)) e ∙ ap part (get_or-set_other links k j after _ d))) (rest j i (omega arith) g)
   ]
 
-  pub linked_more : {v first second : ℕ} {afterFirsts afterSeconds newIndices newFirsts newSeconds : List ℕ}
-      → v ≡ k + 1 → Linked is v indices afterFirsts afterSeconds → length afterFirsts ≡ most_instructions → length afterSeconds ≡ most_instructions
-      → first ≡ get_or firsts k 0 → second ≡ get_or seconds k 0
-      → newIndices ≡ headed first second k k indices → newFirsts ≡ set afterFirsts k (get_or indices first 0)
-      → newSeconds ≡ set afterSeconds k (get_or indices second 0) → Linked is k newIndices newFirsts newSeconds
-  linked_more {first = first} {second} {afterFirsts} {afterSeconds} {newIndices} v-is g size-first size-second first_is second_is indices-are firsts-are seconds-are =
-      let same_first : first ≡ first_wire it = first_is ∙ tab.first k it here in
-      let same_second : second ≡ second_wire it = second_is ∙ tab.second k it here in
-      let back : Linked is (k + 1) indices afterFirsts afterSeconds = subst (λ z. Linked is z indices afterFirsts afterSeconds) v-is g in
+  pub linked_more : {v : ℕ} {links newLinks : List After} {newIndices : List ℕ} {after : After} → v ≡ k + 1 → Linked is v indices links → length links ≡ most_instructions
+      → newIndices ≡ headed (first_at s.notes.now k) (second_at s.notes.now k) k k indices → newLinks ≡ set links k after
+      → after.first ≡ get_or indices (first_at s.notes.now k) 0 → after.second ≡ get_or indices (second_at s.notes.now k) 0 → Linked is k newIndices newLinks
+  linked_more {v} {links} {newLinks} {newIndices} {after} v-is g sized indices-are links-are first_is second_is =
+      let same_first = first_tabled tab k it here in
+      let same_second = second_tabled tab k it here in
+      let back : Linked is (k + 1) indices links = subst (λ z. Linked is z indices links) v-is g in
       record {
-        heads = λ x b. subst (λ z. NextOn is x k (get_or z x 0)) (sym (indices-are ∙ ap (λ a. headed a second k k indices) same_first ∙ ap (λ a. headed (first_wire it) a k k indices) same_second))
+        heads = λ x b. subst (λ z. NextOn is x k (get_or z x 0))
+            (sym (indices-are ∙ ap (λ a. headed a (second_at s.notes.now k) k k indices) same_first ∙ ap (λ a. headed (first_wire it) a k k indices) same_second))
             (headed_each (λ y h. NextOn is y k h) (first_wire it) (second_wire it) k k indices (omega (arith, named _ (first_in it))) (omega (arith, named _ (second_in it)))
             (next_here (wire_on is k here _ (first_in it))) (next_here (wire_on is k here _ (second_in it)))
             x (λ f s. next_back (wire_off is k here x f s) (back.heads x b)));
-        after_first = after_more first_wire first_in back.heads afterFirsts size-first (firsts-are ∙ ap (λ a. set afterFirsts k (get_or indices a 0)) same_first) back.after_first;
-        after_second = after_more second_wire second_in back.heads afterSeconds size-second (seconds-are ∙ ap (λ a. set afterSeconds k (get_or indices a 0)) same_second) back.after_second;
+        after_first = after_more first_wire first_in (λ z. z.first) back.heads links sized links-are (first_is ∙ ap (λ a. get_or indices a 0) same_first) back.after_first;
+        after_second = after_more second_wire second_in (λ z. z.second) back.heads links sized links-are (second_is ∙ ap (λ a. get_or indices a 0) same_second) back.after_second;
       }

@@ -23,24 +23,26 @@ use Rattle.records.specs.Records.{line}
 use Rattle.records.specs.declared.instructions.Instruction.{Instruction}
 use Rattle.records.specs.declared.instructions.Instruction.TheVariants.{Reset, Measurement, Gate, AngledGate, TwoLineGate, AngledTwoLineGate}
 use Rattle.circuits.specs.Limits.{most_wires, most_instructions}
-use Rattle.circuits.specs.Validity.{steps_bytes}
 use Rattle.circuits.specs.Reading.{read_circuit}
+use Rattle.circuits.specs.Validity.{steps_bytes}
 use Rattle.circuits.specs.Rewriting.{steps_of}
-use Rattle.circuits.specs.declared.circuit.Circuit.{Circuit}
-use Rattle.circuits.proofs.Rewrites.{Accepted}
-use Rattle.circuits.proofs.Validity.{read_valid}
+use Rattle.circuits.proofs.Rewrites.{Accepted, accepted}
 use Rattle.precedence.specs.Lives.{lines_of}
 use Rattle.precedence.specs.Precedence.{circuit_of, Wired}
 use Rattle.precedence.proofs.Precedence.{read_wired, circuit_lawful}
 use Rattle.pairs.specs.Lending.{pairs_of}
 use Rattle.writer.specs.Chains.{qubit_of}
-use Rattle.writer.specs.Outputs.{renamed, in_order, dynamic_steps, Renames}
-use Rattle.writer.specs.Heads.{form_of, first_wire, second_wire, NextOn, Noted, Notes, Tabled, Low, Fit, Linked, headed, candidate, candidate_of, tried_below, tried_both, Least}
-use Rattle.writer.proofs.Wires.{first_in, second_in, headed-length, headed_each, there, wire_on, wire_off, on_wire}
-use Rattle.writer.proofs.Heads.{Head, head_first, head_kept, head_moved, may-ready, ready_head, ready_may, may_tells}
+use Rattle.writer.specs.Outputs.{renamed, in_order, dynamic_in, Renames}
+use Rattle.writer.specs.Notes.{form_of, first_wire, second_wire, note_at, first_at, second_at, place_at, Noted}
+use Rattle.writer.specs.Heads.{Faithful, NextOn, Tabled, after_at, Linked, headed, is_reset, candidate, candidate_of, tried_below, tried_both, Least}
+use Rattle.writer.specs.declared.heads.After.{After}
+use Rattle.writer.specs.declared.heads.Heads.{Heads}
+use Rattle.writer.specs.declared.source.Source.{Source}
+use Rattle.writer.proofs.Wires.{first_in, second_in, headed_each, there, wire_on, wire_off, on_wire, first_noted, second_noted, form_noted}
+use Rattle.writer.proofs.Ready.{Head, head_first, head_kept, head_moved, may-ready, ready_head, ready_may, may_tells}
 use Rattle.writer.proofs.Copies.{noted_length, renamed-length}
 use Rattle.writer.proofs.Moves.{moves_right}
-use Rattle.writer.proofs.Candidates.{both_length, Better, below_right, better_below}
+use Rattle.writer.proofs.Candidates.{Better, below_right, better_below}
 
 -- ## The rest of the order
 
@@ -101,17 +103,20 @@ unfolding in_order
 order_next q is k ks e = rw (in_order, e)
 
 -- a reset is on one wire
-reset_wire : (i : Instruction) → form_of i ≡ 0 → first_wire i ≡ second_wire i
+reset_wire : (i : Instruction) → is_reset (form_of i) ≡ true → first_wire i ≡ second_wire i
 reset_wire (Reset l) h = refl
 reset_wire (Measurement l b) h = refl
 reset_wire (Gate k l) h = refl
 reset_wire (AngledGate k l a) h = refl
-reset_wire (TwoLineGate k l m) h = absurd (omega arith)
-reset_wire (AngledTwoLineGate k l m a) h = absurd (omega arith)
+reset_wire (TwoLineGate k l m) h = cc
+reset_wire (AngledTwoLineGate k l m a) h = cc
 
 -- ## The turns
 
-module _ (s : List ℕ) (told : Circuit) (a : Accepted s told) (lenders : List ℕ) where
+module _ (s : Source) (faithful : Faithful s) where
+  abbrev a : Accepted s.circuit.now s.valid
+  a = accepted s.circuit.now faithful.valid
+
   abbrev is : List Instruction
   is = a.circuit.steps
 
@@ -119,274 +124,230 @@ module _ (s : List ℕ) (told : Circuit) (a : Accepted s told) (lenders : List �
   C = circuit_of a.circuit
 
   abbrev ps : List Pair
-  ps = pairs_of lenders a.circuit.width
+  ps = pairs_of s.lenders.lenders a.circuit.width
 
   abbrev q : ℕ → ℕ
-  q = qubit_of lenders a.circuit.width
+  q = qubit_of s.lenders.lenders a.circuit.width
 
   wired : Wired a.circuit
-  wired = read_wired s a.is
+  wired = read_wired s.circuit.now a.is
 
-  same : steps_of (read_circuit s) ≡ is
-  same = ap steps_of a.is
+  -- what is kept of an instruction
+  noted : (k : ℕ) (i : Instruction) → get_elem? is k ≡ some i → Noted s.circuit.now s.notes.now k i
+  noted k i e = faithful.kept.each k i (subst (λ z. get_elem? z k ≡ some i) (sym (ap steps_of a.is)) e)
 
-  module _ {forms firsts seconds places : List ℕ} (notes : Notes s (steps_of (read_circuit s)) forms firsts seconds places) where
-    -- what is kept of an instruction
-    noted : (k : ℕ) (i : Instruction) → get_elem? is k ≡ some i
-        → Noted s (get_or places k 0) (most_instructions - k) (get_or places (k + 1) 0) i (get_or forms k 0) (get_or firsts k 0) (get_or seconds k 0)
-    noted k i e = notes.each k i (subst (λ z. get_elem? z k ≡ some i) (sym same) e)
+  wire_low : (k : ℕ) {i : Instruction} → get_elem? is k ≡ some i → (x : ℕ) → In x (lines_of i) → x < a.circuit.width
+  wire_low k e x h = ltb-true x a.circuit.width (wired.named x k (wire_on is k e x h))
 
-    wire_low : (k : ℕ) {i : Instruction} → get_elem? is k ≡ some i → (x : ℕ) → In x (lines_of i) → x < a.circuit.width
-    wire_low k e x h = ltb-true x a.circuit.width (wired.named x k (wire_on is k e x h))
+  tab : Tabled is s
+  tab = record {
+    all = sym a.instructions;
+    named = λ x k o. omega (arith, ltb-true x a.circuit.width (wired.named x k o), a.width, s.narrow);
+    note = λ k i e. (noted k i e).note;
+  }
 
-    tab : Tabled is told.instructions forms firsts seconds
-    tab = record {
-      all = sym a.instructions;
-      named = λ x k o. omega (arith, ltb-true x a.circuit.width (wired.named x k o), (read_valid s a.is).narrow);
-      form = λ k i e. (noted k i e).form_is;
-      first = λ k i e. (noted k i e).first_is;
-      second = λ k i e. (noted k i e).second_is;
-    }
+  -- what is written
+  abbrev all : List ℕ
+  all = steps_bytes (dynamic_in s.lenders.lenders (read_circuit s.circuit.now))
 
-    pub notes_low : Low told.instructions firsts seconds
-    notes_low k l =
-        let it = there is k (omega (arith, a.instructions)) in
-        let n = noted k it.0 it.1 in (
-          omega (arith, n.first_is, wire_low k it.1 (first_wire it.0) (first_in it.0), (read_valid s a.is).narrow),
-          omega (arith, n.second_is, wire_low k it.1 (second_wire it.0) (second_in it.0), (read_valid s a.is).narrow),
-        )
+  -- a wire is one of its head's
+  owns : (indices written : List ℕ) → ((x : ℕ) → x < most_wires → Head is written x (get_or indices x 0)) → (x : ℕ) → x < most_wires
+      → get_or indices x 0 < s.valid.instructions → (x ≡ first_at s.notes.now (get_or indices x 0)) ⊎ (x ≡ second_at s.notes.now (get_or indices x 0))
+  owns indices written heads x b l =
+      let k = get_or indices x 0 in
+      let it = there is k (omega (arith, a.instructions)) in
+      let n = noted k it.0 it.1 in
+      elim (on_wire is k it.1 x ((heads x b).here (omega (arith, a.instructions)))) [
+        | inl e ↦ inl (e ∙ sym (first_noted n))
+        | inr e ↦ inr (e ∙ sym (second_noted n))
+      ]
 
-    -- what the search for the next instruction is given fits
-    pub fitting : {indices candidates : List ℕ} → length lenders ≡ most_wires → length indices ≡ most_wires → length candidates ≡ most_wires
-        → Fit told lenders indices candidates firsts seconds
-    fitting l i k = record {
-      sized_lenders = l;
-      sized_indices = i;
-      sized = k;
-      narrow = omega (arith, a.width, (read_valid s a.is).narrow);
-      few = omega (arith, a.instructions, (read_valid s a.is).few);
-      low = notes_low;
-    }
+  -- a wire that has a head is below the width
+  narrow_head : (indices written : List ℕ) → ((x : ℕ) → x < most_wires → Head is written x (get_or indices x 0)) → (x : ℕ) → x < most_wires
+      → candidate s indices x ≡ true → x < a.circuit.width
+  narrow_head indices written heads x b m =
+      ltb-true x a.circuit.width (wired.named x (get_or indices x 0) ((heads x b).here (omega (arith, (may_tells s indices x m).inside, a.instructions))))
 
-    -- a wire is one of its head's
-    owns : (indices written : List ℕ) → ((x : ℕ) → x < most_wires → Head is written x (get_or indices x 0)) → (x : ℕ) → x < most_wires
-        → get_or indices x 0 < told.instructions → (x ≡ get_or firsts (get_or indices x 0) 0) ⊎ (x ≡ get_or seconds (get_or indices x 0) 0)
-    owns indices written heads x b l =
-        let k = get_or indices x 0 in
-        let it = there is k (omega (arith, a.instructions)) in
-        let n = noted k it.0 it.1 in
-        elim (on_wire is k it.1 x ((heads x b).here (omega (arith, a.instructions)))) [
-          | inl e ↦ inl (e ∙ sym n.first_is)
-          | inr e ↦ inr (e ∙ sym n.second_is)
-        ]
+  -- the heads are those after what is written, what is kept of each wire is its candidate, and what is still to be written is the rest of the order
+  pub record Going (old : List ℕ) (from : ℕ) (h : Heads) (out : List ℕ) (to left : ℕ) : Type 0 where
+    pub written : List ℕ
+    pub kept : Written C ps written
+    pub heads : (x : ℕ) → x < most_wires → Head is written x (get_or h.indices x 0)
+    pub right : (x : ℕ) → x < most_wires → get_or h.candidates x 0 ≡ candidate_of s h.indices x
+    pub rest : Remaining old from all out to (steps_bytes (in_order q is (rest_on C ps left written)))
 
-    -- a wire that has a head is below the width
-    narrow_head : (indices written : List ℕ) → ((x : ℕ) → x < most_wires → Head is written x (get_or indices x 0)) → (x : ℕ) → x < most_wires
-        → candidate lenders indices told forms firsts seconds x ≡ true → x < a.circuit.width
-    narrow_head indices written heads x b m =
-        ltb-true x a.circuit.width (wired.named x (get_or indices x 0) ((heads x b).here (omega (arith, (may_tells lenders indices told forms firsts seconds x m).inside, a.instructions))))
+  pub going_start : {old : List ℕ} {from left : ℕ} {h : Heads} {links : List After} → left ≡ s.valid.instructions → from + length all ≤ length old → ((is : List Instruction) → Tabled is s → Linked is 0 h.indices links)
+      → h.candidates ≡ tried_below s h.indices s.valid.width (replicate most_wires s.valid.instructions)
+      → Going old from h old from left
+  going_start {old} {from} {h = h} e room linked found = record {
+    written = [];
+    kept = written_none C ps;
+    heads = heads;
+    right = λ x b. ap (λ z. get_or z x 0) found ∙ elim (below_or_not x s.valid.width) [
+      | inl l ↦ below_right s h.indices own s.valid.width start start_sized s.narrow x l
+      | inr l ↦ better.kept x (get_or-replicate most_wires x s.valid.instructions 0 b ∙ sym (rw (refuted _ (λ m. let z = narrow_head h.indices [] heads x b m in omega (arith, a.width)))))
+    ];
+    rest = subst (λ z. Remaining old from all old from z)
+        (ap (λ o. steps_bytes (dynamic_in s.lenders.lenders o)) a.is ∙ ap (λ ks. steps_bytes (in_order q is ks)) (rest_all C ps ∙ ap (λ n. rest_on C ps n []) (sym (e ∙ a.instructions))))
+        (remaining_start room);
+  }
+    where
+      heads : (x : ℕ) → x < most_wires → Head is [] x (get_or h.indices x 0)
+      heads x b = head_first is x ((linked is tab).heads x b)
 
-    -- the heads are those after what is written, what is kept of each wire is its candidate, and what is still to be written is the rest of the order
-    pub record Going (old : List ℕ) (from : ℕ) (all indices candidates out : List ℕ) (to left : ℕ) : Type 0 where
-      pub written : List ℕ
-      pub kept : Written C ps written
-      pub heads : (x : ℕ) → x < most_wires → Head is written x (get_or indices x 0)
-      pub sized : length indices ≡ most_wires
-      pub sized_candidates : length candidates ≡ most_wires
-      pub right : (x : ℕ) → x < most_wires → get_or candidates x 0 ≡ candidate_of lenders indices told forms firsts seconds x
-      pub rest : Remaining old from all out to (steps_bytes (in_order q is (rest_on C ps left written)))
+      own : (x : ℕ) → x < most_wires → get_or h.indices x 0 < s.valid.instructions → (x ≡ first_at s.notes.now (get_or h.indices x 0)) ⊎ (x ≡ second_at s.notes.now (get_or h.indices x 0))
+      own = owns h.indices [] heads
 
-    pub going_start : {old : List ℕ} {from : ℕ} {all indices candidates afterFirsts afterSeconds : List ℕ} → all ≡ steps_bytes (dynamic_steps lenders a.circuit)
-        → from + length all ≤ length old → length indices ≡ most_wires
-        → ((is : List Instruction) (forms : List ℕ) → Tabled is told.instructions forms firsts seconds → Linked is 0 indices afterFirsts afterSeconds)
-        → candidates ≡ tried_below lenders indices told forms firsts seconds told.width (replicate most_wires told.instructions)
-        → Going old from all indices candidates old from told.instructions
-    going_start {old} {from} {all} {indices} {candidates} e room size linked found = record {
-      written = [];
-      kept = written_none C ps;
-      heads = heads;
-      sized = size;
-      sized_candidates = ap length found ∙ better.sized;
-      right = λ x b. ap (λ z. get_or z x 0) found ∙ elim (below_or_not x told.width) [
-        | inl l ↦ below_right lenders indices told forms firsts seconds notes_low own told.width start start_sized narrow x l
-        | inr l ↦ better.kept x (get_or-replicate most_wires x told.instructions 0 b ∙ sym (rw (refuted _ (λ m. let z = narrow_head indices [] heads x b m in omega (arith, a.width)))))
-      ];
-      rest = subst (λ z. Remaining old from all old from z)
-          (e ∙ ap (λ ks. steps_bytes (in_order q is ks)) (rest_all C ps ∙ ap (λ n. rest_on C ps n []) (sym a.instructions)))
-          (remaining_start room);
-    }
-      where
-        heads : (x : ℕ) → x < most_wires → Head is [] x (get_or indices x 0)
-        heads x b = head_first is x ((linked is forms tab).heads x b)
+      start : List ℕ
+      start = replicate most_wires s.valid.instructions
 
-        own : (x : ℕ) → x < most_wires → get_or indices x 0 < told.instructions → (x ≡ get_or firsts (get_or indices x 0) 0) ⊎ (x ≡ get_or seconds (get_or indices x 0) 0)
-        own = owns indices [] heads
+      start_sized : length start ≡ most_wires
+      start_sized = length-replicate most_wires s.valid.instructions
 
-        start : List ℕ
-        start = replicate most_wires told.instructions
+      better : Better s h.indices own start (tried_below s h.indices s.valid.width start)
+      better = better_below s h.indices own s.valid.width start start_sized s.narrow
 
-        start_sized : length start ≡ most_wires
-        start_sized = length-replicate most_wires told.instructions
+  module _ {old : List ℕ} {from : ℕ} {h : Heads} {out : List ℕ} {to left : ℕ} (g : Going old from h out to left) where
+    ended : rest_on C ps left g.written ≡ [] → Wrote old from all out to
+    ended e = remaining_end (ap steps_bytes (order_none q is (rest_on C ps left g.written) e)) g.rest
 
-        narrow : told.width ≤ most_wires
-        narrow = omega (arith, a.width, (read_valid s a.is).narrow)
+    -- all that may be written is
+    pub going_end : left ≡ 0 → Wrote old from all out to
+    going_end e = ended (ap (λ n. rest_on C ps n g.written) e ∙ rest_none C ps g.written)
 
-        better : Better lenders indices told forms firsts seconds notes_low own start (tried_below lenders indices told forms firsts seconds told.width start)
-        better = better_below lenders indices told forms firsts seconds notes_low own told.width start start_sized narrow
+    abbrev below_heads : (x : ℕ) → x < a.circuit.width → Head is g.written x (get_or h.indices x 0)
+    below_heads x l = g.heads x (omega (arith, a.width, s.narrow))
 
-    module _ {old : List ℕ} {from : ℕ} {all indices candidates out : List ℕ} {to left : ℕ} (g : Going old from all indices candidates out to left) where
-      ended : rest_on C ps left g.written ≡ [] → Wrote old from all out to
-      ended e = remaining_end (ap steps_bytes (order_none q is (rest_on C ps left g.written) e)) g.rest
+    module _ {index : ℕ} (least : Least h.candidates most_wires index) where
+      -- what is ready is no lower than what was chosen
+      no_lower : (m : ℕ) → m < length is → ready C ps g.written m ≡ true → index ≤ m
+      no_lower m l r =
+          let x = ready_may a.circuit wired s h.indices a.width g.written g.kept tab below_heads m l r in
+          let b : x.0 < most_wires = omega (arith, x.1, a.width, s.narrow) in
+          let e : get_or h.candidates x.0 0 ≡ get_or h.indices x.0 0 = g.right x.0 b ∙ rw x.3 in
+          omega (arith, least.least x.0 b, x.2)
 
-      -- all that may be written is
-      pub going_end : left ≡ 0 → Wrote old from all out to
-      going_end e = ended (ap (λ n. rest_on C ps n g.written) e ∙ rest_none C ps g.written)
+      -- where nothing was chosen nothing is ready
+      pub going_stuck : s.valid.instructions ≤ index → Wrote old from all out to
+      going_stuck b = elim (below_or_not (next C ps g.written) (length is)) [
+        | inl l ↦ (let z = no_lower (next C ps g.written) l (next-ready C ps g.written l) in absurd (omega (arith, a.instructions)))
+        | inr l ↦ ended (rest_stuck C ps left g.written l)
+      ]
 
-      abbrev below_heads : (x : ℕ) → x < a.circuit.width → Head is g.written x (get_or indices x 0)
-      below_heads x l = g.heads x (omega (arith, (read_valid s a.is).narrow))
+      module _ (b : index < s.valid.instructions) where
+        pub chosen_below : index < most_instructions
+        chosen_below = omega (arith, a.instructions, s.few)
 
-      module _ {index : ℕ} (least : Least candidates most_wires index) where
-        -- what is ready is no lower than what was chosen
-        no_lower : (m : ℕ) → m < length is → ready C ps g.written m ≡ true → index ≤ m
-        no_lower m l r =
-            let x = ready_may a.circuit wired lenders indices told a.width a.instructions g.written g.kept tab below_heads m l r in
-            let b : x.0 < most_wires = omega (arith, x.1, (read_valid s a.is).narrow) in
-            let e : get_or candidates x.0 0 ≡ get_or indices x.0 0 = g.right x.0 b ∙ rw x.3 in
-            omega (arith, least.least x.0 b, x.2)
+        chosen_inside : index < length is
+        chosen_inside = omega (arith, a.instructions)
 
-        -- where nothing was chosen nothing is ready
-        pub going_stuck : told.instructions ≤ index → Wrote old from all out to
-        going_stuck b = elim (below_or_not (next C ps g.written) (length is)) [
-          | inl l ↦ (let z = no_lower (next C ps g.written) l (next-ready C ps g.written l) in absurd (omega (arith, a.instructions)))
-          | inr l ↦ ended (rest_stuck C ps left g.written l)
-        ]
+        -- a wire whose head is chosen
+        chosen_wire : (x : ℕ) × (x < most_wires) × (candidate s h.indices x ≡ true) × (get_or h.indices x 0 ≡ index)
+        chosen_wire =
+            let x = least.one.0 in
+            elim (true_or_false (candidate s h.indices x)) [
+              | inl m ↦ (x, least.one.1, m, sym (g.right x least.one.1 ∙ rw m) ∙ least.one.2)
+              | inr m ↦ (let z : get_or h.candidates x 0 ≡ s.valid.instructions = g.right x least.one.1 ∙ rw m in absurd (omega (arith, least.one.2)))
+            ]
 
-        module _ (b : index < told.instructions) where
-          pub chosen_below : index < most_instructions
-          chosen_below = omega (arith, a.instructions, (read_valid s a.is).few)
+        chosen_ready : ready C ps g.written index ≡ true
+        chosen_ready =
+            let x = chosen_wire in
+            subst (λ k. ready C ps g.written k ≡ true) x.3
+            (may-ready a.circuit wired s h.indices a.width g.written g.kept tab below_heads x.0 (narrow_head h.indices g.written g.heads x.0 x.1 x.2) x.2)
 
-          chosen_inside : index < length is
-          chosen_inside = omega (arith, a.instructions)
+        -- so it is what comes next
+        chosen_next : next C ps g.written ≡ index
+        chosen_next = next_is C ps g.written index chosen_inside
+            (λ m l. refuted _ (λ r. let z = no_lower m (omega (arith, chosen_inside)) r in omega arith))
+            chosen_ready
 
-          -- a wire whose head is chosen
-          chosen_wire : (x : ℕ) × (x < most_wires) × (candidate lenders indices told forms firsts seconds x ≡ true) × (get_or indices x 0 ≡ index)
-          chosen_wire =
-              let x = least.one.0 in
-              elim (true_or_false (candidate lenders indices told forms firsts seconds x)) [
-                | inl m ↦ (x, least.one.1, m, sym (g.right x least.one.1 ∙ rw m) ∙ least.one.2)
-                | inr m ↦ (let z : get_or candidates x 0 ≡ told.instructions = g.right x least.one.1 ∙ rw m in absurd (omega (arith, least.one.2)))
-              ]
+        abbrev it : Instruction
+        it = (there is index chosen_inside).0
 
-          chosen_ready : ready C ps g.written index ≡ true
-          chosen_ready =
-              let x = chosen_wire in
-              subst (λ k. ready C ps g.written k ≡ true) x.3
-              (may-ready a.circuit wired lenders indices told a.width a.instructions g.written g.kept tab below_heads x.0 (narrow_head indices g.written g.heads x.0 x.1 x.2) x.2)
+        this : get_elem? is index ≡ some it
+        this = (there is index chosen_inside).1
 
-          -- so it is what comes next
-          chosen_next : next C ps g.written ≡ index
-          chosen_next = next_is C ps g.written index chosen_inside
-              (λ m l. refuted _ (λ r. let z = no_lower m (omega (arith, chosen_inside)) r in omega arith))
-              chosen_ready
+        chosen_noted : Noted s.circuit.now s.notes.now index it
+        chosen_noted = noted index it this
 
-          abbrev it : Instruction
-          it = (there is index chosen_inside).0
+        order : (less : ℕ) → left ≡ less + 1 → rest_on C ps left g.written ≡ index ∷ rest_on C ps less (g.written ++ index ∷ [])
+        order less e =
+            let z : left ≡ suc less = omega arith in
+            ap (λ n. rest_on C ps n g.written) z ∙ rest_more C ps less g.written (omega (arith, chosen_next, chosen_inside))
+            ∙ ap (λ k. k ∷ rest_on C ps less (g.written ++ k ∷ [])) chosen_next
 
-          this : get_elem? is index ≡ some it
-          this = (there is index chosen_inside).1
+        -- it is the first of what is still to be written
+        comes_first : (less : ℕ) → left ≡ less + 1
+            → Remaining old from all out to (instruction_bytes (renamed q it) ++ steps_bytes (in_order q is (rest_on C ps less (g.written ++ index ∷ []))))
+        comes_first less e = subst (λ z. Remaining old from all out to (steps_bytes z)) (ap (in_order q is) (order less e) ∙ order_next q is index _ this) g.rest
 
-          chosen_noted : Noted s (get_or places index 0) (most_instructions - index) (get_or places (index + 1) 0) it (get_or forms index 0) (get_or firsts index 0) (get_or seconds index 0)
-          chosen_noted = noted index it this
+        -- and there is room for it
+        pub chosen_room : 0 < left → to + (place_at s.notes.now (index + 1) - place_at s.notes.now index) ≤ length out
+        chosen_room l =
+            let fits = simp length-append at (remaining_fits (comes_first (left - 1) (omega arith))) in
+            omega (arith, noted_length chosen_noted, renamed-length q it)
 
-          order : 0 < left → rest_on C ps left g.written ≡ index ∷ rest_on C ps (left - 1) (g.written ++ index ∷ [])
-          order l =
-              let z : left ≡ suc (left - 1) = omega arith in
-              ap (λ n. rest_on C ps n g.written) z ∙ rest_more C ps (left - 1) g.written (omega (arith, chosen_next, chosen_inside))
-              ∙ ap (λ k. k ∷ rest_on C ps (left - 1) (g.written ++ k ∷ [])) chosen_next
+        pub chosen_there : (i : Instruction) × Noted s.circuit.now s.notes.now index i
+        chosen_there = (it, chosen_noted)
 
-          -- it is the first of what is still to be written
-          comes_first : 0 < left → Remaining old from all out to (instruction_bytes (renamed q it) ++ steps_bytes (in_order q is (rest_on C ps (left - 1) (g.written ++ index ∷ []))))
-          comes_first l = subst (λ z. Remaining old from all out to (steps_bytes z)) (ap (in_order q is) (order l) ∙ order_next q is index _ this) g.rest
+        resets : (k : ℕ) → k < s.valid.instructions → is_reset (note_at s.notes.now k).form ≡ true → first_at s.notes.now k ≡ second_at s.notes.now k
+        resets k l r =
+            let i = there is k (omega (arith, a.instructions)) in
+            let n = noted k i.0 i.1 in
+            first_noted n ∙ reset_wire i.0 (sym (ap is_reset (form_noted n)) ∙ r) ∙ sym (second_noted n)
 
-          -- and there is room for it
-          chosen_room : 0 < left → to + (get_or places (index + 1) 0 - get_or places index 0) ≤ length out
-          chosen_room l =
-              let fits = simp length-append at (remaining_fits (comes_first l)) in
-              omega (arith, noted_length chosen_noted, renamed-length q it)
+        below_width : (k : ℕ) → k < s.valid.instructions → first_at s.notes.now k < s.valid.width
+        below_width k l =
+            let i = there is k (omega (arith, a.instructions)) in
+            omega (arith, first_noted (noted k i.0 i.1), wire_low k i.1 (first_wire i.0) (first_in i.0), a.width)
 
-          -- what is kept of it, by the places that are told
-          module _ {at after : ℕ} (at-is : at ≡ get_or places index 0) (after_is : after ≡ get_or places (index + 1) 0) where
-            told_noted : Noted s at (most_instructions - index) after it (get_or forms index 0) (get_or firsts index 0) (get_or seconds index 0)
-            told_noted = rw (at-is, after_is) chosen_noted
+        -- the head of one of its wires is the instruction, and then the next on the wire
+        was_head : (x : ℕ) → In x (lines_of it) → get_or h.indices x 0 ≡ index
+        was_head x w = ready_head a.circuit wired s h.indices a.width g.written g.kept tab below_heads index chosen_ready x (wire_on is index this x w)
 
-            pub chosen_there : (i : Instruction) × (n : ℕ) × Noted s at n after i (get_or forms index 0) (get_or firsts index 0) (get_or seconds index 0)
-            chosen_there = (it, most_instructions - index, told_noted)
+        head_of_wire : (x : ℕ) → In x (lines_of it) → {k : ℕ} → NextOn is x (index + 1) k → Head is (g.written ++ index ∷ []) x k
+        head_of_wire x w n = head_moved is x g.written index (subst (Head is g.written x) (was_head x w) (below_heads x (wire_low index this x w))) n
 
-            pub told_room : 0 < left → to + (after - at) ≤ length out
-            told_room l = rw (at-is, after_is) (chosen_room l)
+        module _ {links : List After} {started : List ℕ} (new : Heads) (linked : (is : List Instruction) → Tabled is s → Linked is 0 started links)
+            (set : new.indices ≡ headed (first_at s.notes.now index) (second_at s.notes.now index) (after_at links index).first (after_at links index).second h.indices) where
+          new_heads : (x : ℕ) → x < most_wires → Head is (g.written ++ index ∷ []) x (get_or new.indices x 0)
+          new_heads x l =
+              let told = linked is tab in
+              let n = chosen_noted in
+              let low = s.low index b in
+              subst (λ z. Head is (g.written ++ index ∷ []) x (get_or z x 0)) (sym set)
+              (headed_each (λ y k. Head is (g.written ++ index ∷ []) y k) (first_at s.notes.now index) (second_at s.notes.now index) (after_at links index).first (after_at links index).second h.indices
+              (omega (arith, low.0, h.sized)) (omega (arith, low.1, h.sized))
+              (subst (λ y. Head is (g.written ++ index ∷ []) y (after_at links index).first) (sym (first_noted n)) (head_of_wire _ (first_in it) (told.after_first index it (omega arith) this)))
+              (subst (λ y. Head is (g.written ++ index ∷ []) y (after_at links index).second) (sym (second_noted n)) (head_of_wire _ (second_in it) (told.after_second index it (omega arith) this)))
+              x (λ f s'. head_kept is x g.written index (wire_off is index this x (λ e. f (e ∙ sym (first_noted n))) (λ e. s' (e ∙ sym (second_noted n)))) (g.heads x l)))
 
-          resets : (k : ℕ) → k < told.instructions → get_or forms k 0 ≡ 0 → get_or firsts k 0 ≡ get_or seconds k 0
-          resets k l r =
-              let i = there is k (omega (arith, a.instructions)) in
-              let n = noted k i.0 i.1 in
-              n.first_is ∙ reset_wire i.0 (sym n.form_is ∙ r) ∙ sym n.second_is
+          new_right : new.candidates ≡ tried_both s new.indices (first_at s.notes.now index) (second_at s.notes.now index) h.candidates
+              → (x : ℕ) → x < most_wires → get_or new.candidates x 0 ≡ candidate_of s new.indices x
+          new_right e x l =
+              let n = chosen_noted in
+              let moved = headed (first_at s.notes.now index) (second_at s.notes.now index) (after_at links index).first (after_at links index).second h.indices in
+              ap (λ z. get_or z x 0) e
+              ∙ subst (λ z. get_or (tried_both s z (first_at s.notes.now index) (second_at s.notes.now index) h.candidates) x 0 ≡ candidate_of s z x) (sym set)
+              (moves_right s below_width resets h.indices h.sized index _ _ b
+              (owns moved (g.written ++ index ∷ []) (λ y k. subst (λ z. Head is (g.written ++ index ∷ []) y (get_or z y 0)) set (new_heads y k)))
+              (ap (λ z. get_or h.indices z 0) (first_noted n) ∙ was_head _ (first_in it)) (ap (λ z. get_or h.indices z 0) (second_noted n) ∙ was_head _ (second_in it))
+              h.candidates h.sized_candidates g.right x l)
 
-          below_width : (k : ℕ) → k < told.instructions → get_or firsts k 0 < told.width
-          below_width k l =
-              let i = there is k (omega (arith, a.instructions)) in
-              omega (arith, (noted k i.0 i.1).first_is, wire_low k i.1 (first_wire i.0) (first_in i.0), a.width)
-
-          -- the head of one of its wires is the instruction, and then the next on the wire
-          was_head : (x : ℕ) → In x (lines_of it) → get_or indices x 0 ≡ index
-          was_head x h = ready_head a.circuit wired lenders indices told a.width a.instructions g.written g.kept tab below_heads index chosen_ready x (wire_on is index this x h)
-
-          head_of_wire : (x : ℕ) → In x (lines_of it) → {k : ℕ} → NextOn is x (index + 1) k → Head is (g.written ++ index ∷ []) x k
-          head_of_wire x h n = head_moved is x g.written index (subst (Head is g.written x) (was_head x h) (below_heads x (wire_low index this x h))) n
-
-          module _ {afterFirsts afterSeconds started newIndices : List ℕ}
-              (linked : (is : List Instruction) (forms : List ℕ) → Tabled is told.instructions forms firsts seconds → Linked is 0 started afterFirsts afterSeconds)
-              (set : newIndices ≡ headed (get_or firsts index 0) (get_or seconds index 0) (get_or afterFirsts index 0) (get_or afterSeconds index 0) indices) where
-            new_heads : (x : ℕ) → x < most_wires → Head is (g.written ++ index ∷ []) x (get_or newIndices x 0)
-            new_heads x l =
-                let links = linked is forms tab in
-                let n = chosen_noted in
-                let low = notes_low index b in
-                subst (λ z. Head is (g.written ++ index ∷ []) x (get_or z x 0)) (sym set)
-                (headed_each (λ y k. Head is (g.written ++ index ∷ []) y k) (get_or firsts index 0) (get_or seconds index 0) (get_or afterFirsts index 0) (get_or afterSeconds index 0) indices
-                (omega (arith, low.0, g.sized)) (omega (arith, low.1, g.sized))
-                (subst (λ y. Head is (g.written ++ index ∷ []) y (get_or afterFirsts index 0)) (sym n.first_is) (head_of_wire _ (first_in it) (links.after_first index it (omega arith) this)))
-                (subst (λ y. Head is (g.written ++ index ∷ []) y (get_or afterSeconds index 0)) (sym n.second_is) (head_of_wire _ (second_in it) (links.after_second index it (omega arith) this)))
-                x (λ f s'. head_kept is x g.written index (wire_off is index this x (λ e. f (e ∙ sym n.first_is)) (λ e. s' (e ∙ sym n.second_is))) (g.heads x l)))
-
-            new_right : {newCandidates : List ℕ} → newCandidates ≡ tried_both lenders newIndices told forms firsts seconds (get_or firsts index 0) (get_or seconds index 0) candidates
-                → (x : ℕ) → x < most_wires → get_or newCandidates x 0 ≡ candidate_of lenders newIndices told forms firsts seconds x
-            new_right {newCandidates} e x l =
-                let n = chosen_noted in
-                let moved = headed (get_or firsts index 0) (get_or seconds index 0) (get_or afterFirsts index 0) (get_or afterSeconds index 0) indices in
-                ap (λ z. get_or z x 0) e
-                ∙ subst (λ z. get_or (tried_both lenders z told forms firsts seconds (get_or firsts index 0) (get_or seconds index 0) candidates) x 0 ≡ candidate_of lenders z told forms firsts seconds x) (sym set)
-                (moves_right lenders told forms firsts seconds notes_low (omega (arith, a.width, (read_valid s a.is).narrow)) below_width resets indices g.sized index _ _ b
-                (owns moved (g.written ++ index ∷ []) (λ y k. subst (λ z. Head is (g.written ++ index ∷ []) y (get_or z y 0)) set (new_heads y k)))
-                (ap (λ z. get_or indices z 0) n.first_is ∙ was_head _ (first_in it)) (ap (λ z. get_or indices z 0) n.second_is ∙ was_head _ (second_in it))
-                candidates g.sized_candidates g.right x l)
-
-            pub going_on : (numbers : List ℕ) {newCandidates new : List ℕ} {stop : ℕ} → 0 < left → Renames lenders told.width numbers
-                → newCandidates ≡ tried_both lenders newIndices told forms firsts seconds (get_or firsts index 0) (get_or seconds index 0) candidates
-                → {at after : ℕ} → at ≡ get_or places index 0 → after ≡ get_or places (index + 1) 0
-                → ((i : Instruction) (n : ℕ) → Noted s at n after i (get_or forms index 0) (get_or firsts index 0) (get_or seconds index 0)
-                → Wrote out to (instruction_bytes (renamed (λ x. get_or numbers x 0) i)) new stop)
-                → Going old from all newIndices newCandidates new stop (left - 1)
-            going_on numbers {newCandidates} {new} {stop} l r tried-again at-is after_is wrote = record {
-              written = g.written ++ index ∷ [];
-              kept = written_more C (circuit_lawful a.circuit wired) ps g.written index g.kept chosen_inside chosen_ready;
-              heads = new_heads;
-              sized = ap length set ∙ headed-length _ _ _ _ indices ∙ g.sized;
-              sized_candidates = ap length tried-again ∙ both_length lenders newIndices told forms firsts seconds _ _ candidates ∙ g.sized_candidates;
-              right = new_right tried-again;
-              rest = remaining_call (steps_bytes (in_order q is (rest_on C ps (left - 1) (g.written ++ index ∷ []))))
-                  (subst (λ z. Wrote out to (instruction_bytes z) new stop) (renamed_same _ q it agree) (wrote it (most_instructions - index) (told_noted at-is after_is)))
-                  (comes_first l);
-            }
-              where
-                agree : (x : ℕ) → In x (lines_of it) → get_or numbers x 0 ≡ q x
-                agree x h = ap (λ z. get_or z x 0) r ∙ get_or-each most_wires _ x (omega (arith, wire_low index this x h, (read_valid s a.is).narrow)) ∙ ap (λ w. qubit_of lenders w x) a.width
+          pub going_on : (numbers : List ℕ) {after : List ℕ} {stop less : ℕ} → left ≡ less + 1 → Renames s.lenders.lenders s.valid.width numbers
+              → new.candidates ≡ tried_both s new.indices (first_at s.notes.now index) (second_at s.notes.now index) h.candidates
+              → ((i : Instruction) → Noted s.circuit.now s.notes.now index i → Wrote out to (instruction_bytes (renamed (λ x. get_or numbers x 0) i)) after stop)
+              → Going old from new after stop less
+          going_on numbers {after} {stop} {less} e r tried-again wrote = record {
+            written = g.written ++ index ∷ [];
+            kept = written_more C (circuit_lawful a.circuit wired) ps g.written index g.kept chosen_inside chosen_ready;
+            heads = new_heads;
+            right = new_right tried-again;
+            rest = remaining_call (steps_bytes (in_order q is (rest_on C ps less (g.written ++ index ∷ []))))
+                (subst (λ z. Wrote out to (instruction_bytes z) after stop) (renamed_same _ q it agree) (wrote it chosen_noted))
+                (comes_first less e);
+          }
+            where
+              agree : (x : ℕ) → In x (lines_of it) → get_or numbers x 0 ≡ q x
+              agree x w = ap (λ z. get_or z x 0) r ∙ get_or-each most_wires _ x (omega (arith, wire_low index this x w, a.width, s.narrow)) ∙ ap (λ w. qubit_of s.lenders.lenders w x) a.width

@@ -1,4 +1,5 @@
 pub mod Chains
 pub mod Outputs
+pub mod Notes
 pub mod Heads
 pub mod Compiling

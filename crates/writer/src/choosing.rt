@@ -1,221 +1,139 @@
 // What comes next: the least candidate. A wire's candidate is the index of its head where that may be written, and else the
 // number of instructions. It is kept, and tested again only where a write can have changed it.
-ghost use Rattle.std.specs.Prelude.{◌≡◌, ◌<◌, ◌≤◌, length};
-ghost use Rattle.circuits.specs.Limits.{most_wires};
-ghost use Rattle.writer.specs.Heads.{Fit, headed, is_free, may_write, tried, tried_below, tried_takers, tried_moved, tried_both, Least};
+ghost use Rattle.std.specs.Prelude.{◌≡◌, ◌<◌, List, length, replicate};
+ghost use Rattle.records.specs.declared.instructions.Instruction.{Instruction};
+ghost use Rattle.circuits.specs.Limits.{most_wires, most_instructions};
+ghost use Rattle.writer.specs.Notes.{first_at, second_at};
+ghost use Rattle.writer.specs.Heads.{after_at, headed, is_free, may_write, tried, tried_below, tried_takers, tried_moved, tried_both, Least, Tabled, Linked};
 
-use crate::noting::RESET;
-use crate::seeking::{of_wire, set_head, set_heads};
+use crate::heads::{After, Heads};
+use crate::notes::Form;
+use crate::seeking::{link, of_wire, set_head, set_heads};
+use crate::source::Source;
 use circuits::Circuit;
 use records::Wire;
 
-// Whether a wire takes from nobody, or all on its lender is written.
-fn is_free(
-    lenders: &[u8; Circuit::MOST_WIRES],
-    valid: Circuit,
-    indices: &[u16; Circuit::MOST_WIRES],
-    wire: Wire,
-) -> bool
-    requires lenders_len { (length lenders.now ≡ most_wires) × (valid.width ≤ most_wires) }
-    requires wire_lt_most_wires { wire.0 < most_wires }
-    ensures { result ≡ is_free lenders.now indices.now valid wire.0 }
-{
-    let lender = Wire(lenders[wire.0 as usize]);
-    if lender.0 < valid.width {
-        return of_wire(indices, lender) as usize == valid.instructions;
+impl Heads {
+    // Whether a wire takes from nobody, or all on its lender is written.
+    fn is_free(&self, source: &Source, wire: Wire) -> bool
+        ensures { result ≡ is_free source.now self.now.indices wire.0 }
+    {
+        let lender = source.lenders.lender_of(wire);
+        if lender.0 < source.valid.width {
+            return of_wire(&self.indices, lender) as usize == source.valid.instructions;
+        }
+        true
     }
-    true
-}
 
-// Whether an instruction is the head of each of its wires, and the wire of a reset is free.
-fn may_write(
-    lenders: &[u8; Circuit::MOST_WIRES],
-    valid: Circuit,
-    indices: &[u16; Circuit::MOST_WIRES],
-    index: u16,
-    form: u8,
-    first: Wire,
-    second: Wire,
-) -> bool
-    requires lenders_len { (length lenders.now ≡ most_wires) × (valid.width ≤ most_wires) }
-    requires first_lt_most_wires { (first.0 < most_wires) × (second.0 < most_wires) }
-    ensures { result ≡ may_write lenders.now indices.now valid index form first.0 second.0 }
-{
-    if of_wire(indices, first) != index {
-        return false;
+    // Whether an instruction is the head of each of its wires, and the wire of a reset is free.
+    fn may_write(&self, source: &Source, index: u16) -> bool
+        requires { index < source.now.valid.instructions }
+        ensures { result ≡ may_write source.now self.now.indices index }
+    {
+        let note = source.note(index as usize);
+        if of_wire(&self.indices, note.first) != index {
+            return false;
+        }
+        if of_wire(&self.indices, note.second) != index {
+            return false;
+        }
+        if note.form == Form::Reset {
+            return self.is_free(source, note.first);
+        }
+        true
     }
-    if of_wire(indices, second) != index {
-        return false;
-    }
-    if form == RESET {
-        return is_free(lenders, valid, indices, first);
-    }
-    true
-}
 
-// Tests the head of a wire again and keeps what is found, for every wire of a head that may be written.
-fn try_head(
-    lenders: &[u8; Circuit::MOST_WIRES],
-    valid: Circuit,
-    indices: &[u16; Circuit::MOST_WIRES],
-    forms: &[u8; Circuit::MOST_INSTRUCTIONS],
-    firsts: &[u8; Circuit::MOST_INSTRUCTIONS],
-    seconds: &[u8; Circuit::MOST_INSTRUCTIONS],
-    wire: Wire,
-    candidates: &mut [u16; Circuit::MOST_WIRES],
-)
-    requires fit { Fit valid lenders.now indices.now candidates.old firsts.now seconds.now }
-    requires wire_lt_most_wires { wire.0 < most_wires }
-    ensures { candidates.new ≡ tried lenders.now indices.now valid forms.now firsts.now seconds.now wire.0 candidates.old }
-{
-    let index = of_wire(indices, wire);
-    if (index as usize) < valid.instructions {
-        let first = Wire(firsts[index as usize]);
-        let second = Wire(seconds[index as usize]);
-        if may_write(
-            lenders,
-            valid,
+    // Tests the head of a wire again and keeps what is found, for every wire of a head that may be written.
+    fn try_head(&mut self, source: &Source, wire: Wire)
+        requires { wire.0 < most_wires }
+        ensures same_indices { self.new.indices ≡ self.old.indices }
+        ensures candidates_after { self.new.candidates ≡ tried source.now self.old.indices wire.0 self.old.candidates }
+    {
+        let index = of_wire(&self.indices, wire);
+        if (index as usize) < source.valid.instructions {
+            if self.may_write(source, index) {
+                let note = source.note(index as usize);
+                set_heads(&mut self.candidates, note, After::both(index));
+                return;
+            }
+        }
+        set_head(&mut self.candidates, wire, source.valid.instructions as u16);
+    }
+
+    // Tests the heads of all wires.
+    fn try_all(&mut self, source: &Source)
+        ensures same_indices { self.new.indices ≡ self.old.indices }
+        ensures candidates_after { self.new.candidates ≡ tried_below source.now self.old.indices source.now.valid.width self.old.candidates }
+    {
+        for x in 0..source.valid.width {
+            self.try_head(source, Wire(x));
+        }
+    }
+
+    // Tests again the heads of the wires that take from a wire.
+    fn try_takers(&mut self, source: &Source, lender: Wire)
+        ensures same_indices { self.new.indices ≡ self.old.indices }
+        ensures candidates_after { self.new.candidates ≡ tried_takers source.now self.old.indices lender.0 source.now.valid.width self.old.candidates }
+    {
+        for x in 0..source.valid.width {
+            if source.lenders.lender_of(Wire(x)).0 == lender.0 {
+                self.try_head(source, Wire(x));
+            }
+        }
+    }
+
+    // Tests again what a wire's head decides, after it was moved: itself and, where all on the wire is written, its takers.
+    fn try_moved(&mut self, source: &Source, wire: Wire)
+        requires { wire.0 < most_wires }
+        ensures same_indices { self.new.indices ≡ self.old.indices }
+        ensures candidates_after { self.new.candidates ≡ tried_moved source.now self.old.indices wire.0 self.old.candidates }
+    {
+        self.try_head(source, wire);
+        if source.valid.instructions <= of_wire(&self.indices, wire) as usize {
+            self.try_takers(source, wire);
+        }
+    }
+
+    // Moves the heads of an instruction's wires to what comes after it, and tests again what they decide.
+    pub fn move_on(&mut self, source: &Source, index: usize, after: After)
+        requires { index < source.now.valid.instructions }
+        ensures indices_after { self.new.indices ≡ headed (first_at source.now.notes.now index) (second_at source.now.notes.now index) after.first after.second self.old.indices }
+        ensures candidates_after { self.new.candidates ≡ tried_both source.now self.new.indices (first_at source.now.notes.now index) (second_at source.now.notes.now index) self.old.candidates }
+    {
+        let note = source.note(index);
+        set_heads(&mut self.indices, note, after);
+        self.try_moved(source, note.first);
+        if note.first.0 != note.second.0 {
+            self.try_moved(source, note.second);
+        }
+    }
+
+    // The heads before anything is written; keeps for each instruction the next on its wires.
+    pub fn start(source: &Source, links: &mut [After; Circuit::MOST_INSTRUCTIONS]) -> Heads
+        ensures linked { (is : List Instruction) → Tabled is source.now → Linked is 0 result.indices links.new }
+        ensures candidates_value { result.candidates ≡ tried_below source.now result.indices source.now.valid.width (replicate most_wires source.now.valid.instructions) }
+    {
+        let many = source.valid.instructions as u16;
+        let mut indices = [many; Circuit::MOST_WIRES];
+        link(source, &mut indices, links);
+        let mut heads = Heads {
             indices,
-            index,
-            forms[index as usize],
-            first,
-            second,
-        ) {
-            set_heads(first, second, index, index, candidates);
-            return;
+            candidates: [many; Circuit::MOST_WIRES],
+        };
+        heads.try_all(source);
+        heads
+    }
+
+    // The least candidate.
+    pub fn least(&self) -> u16
+        ensures { Least self.now.candidates most_wires result }
+    {
+        let mut lowest = self.candidates[0];
+        for x in 1..Circuit::MOST_WIRES {
+            if self.candidates[x] < lowest {
+                lowest = self.candidates[x];
+            }
         }
+        lowest
     }
-    set_head(candidates, wire, valid.instructions as u16);
-}
-
-// Tests the heads of all wires.
-pub(crate) fn try_all(
-    lenders: &[u8; Circuit::MOST_WIRES],
-    valid: Circuit,
-    indices: &[u16; Circuit::MOST_WIRES],
-    forms: &[u8; Circuit::MOST_INSTRUCTIONS],
-    firsts: &[u8; Circuit::MOST_INSTRUCTIONS],
-    seconds: &[u8; Circuit::MOST_INSTRUCTIONS],
-    candidates: &mut [u16; Circuit::MOST_WIRES],
-)
-    requires { Fit valid lenders.now indices.now candidates.old firsts.now seconds.now }
-    ensures { candidates.new ≡ tried_below lenders.now indices.now valid forms.now firsts.now seconds.now valid.width candidates.old }
-{
-    let mut x: u8 = 0;
-    while x < valid.width {
-        try_head(
-            lenders,
-            valid,
-            indices,
-            forms,
-            firsts,
-            seconds,
-            Wire(x),
-            candidates,
-        );
-        x += 1;
-    }
-}
-
-// Tests again the heads of the wires that take from a wire.
-fn try_takers(
-    lenders: &[u8; Circuit::MOST_WIRES],
-    valid: Circuit,
-    indices: &[u16; Circuit::MOST_WIRES],
-    forms: &[u8; Circuit::MOST_INSTRUCTIONS],
-    firsts: &[u8; Circuit::MOST_INSTRUCTIONS],
-    seconds: &[u8; Circuit::MOST_INSTRUCTIONS],
-    lender: Wire,
-    candidates: &mut [u16; Circuit::MOST_WIRES],
-)
-    requires { Fit valid lenders.now indices.now candidates.old firsts.now seconds.now }
-    ensures { candidates.new ≡ tried_takers lenders.now indices.now valid forms.now firsts.now seconds.now lender.0 valid.width candidates.old }
-{
-    let mut x: u8 = 0;
-    while x < valid.width {
-        if lenders[x as usize] == lender.0 {
-            try_head(
-                lenders,
-                valid,
-                indices,
-                forms,
-                firsts,
-                seconds,
-                Wire(x),
-                candidates,
-            );
-        }
-        x += 1;
-    }
-}
-
-// Tests again what a wire's head decides, after it was moved: itself and, where all on the wire is written, its takers.
-fn try_moved(
-    lenders: &[u8; Circuit::MOST_WIRES],
-    valid: Circuit,
-    indices: &[u16; Circuit::MOST_WIRES],
-    forms: &[u8; Circuit::MOST_INSTRUCTIONS],
-    firsts: &[u8; Circuit::MOST_INSTRUCTIONS],
-    seconds: &[u8; Circuit::MOST_INSTRUCTIONS],
-    wire: Wire,
-    candidates: &mut [u16; Circuit::MOST_WIRES],
-)
-    requires fit { Fit valid lenders.now indices.now candidates.old firsts.now seconds.now }
-    requires wire_lt_most_wires { wire.0 < most_wires }
-    ensures { candidates.new ≡ tried_moved lenders.now indices.now valid forms.now firsts.now seconds.now wire.0 candidates.old }
-{
-    try_head(
-        lenders, valid, indices, forms, firsts, seconds, wire, candidates,
-    );
-    if valid.instructions <= of_wire(indices, wire) as usize {
-        try_takers(
-            lenders, valid, indices, forms, firsts, seconds, wire, candidates,
-        );
-    }
-}
-
-// Moves the heads of an instruction's wires to what comes after it, and tests again what they decide.
-pub(crate) fn move_on(
-    lenders: &[u8; Circuit::MOST_WIRES],
-    valid: Circuit,
-    forms: &[u8; Circuit::MOST_INSTRUCTIONS],
-    firsts: &[u8; Circuit::MOST_INSTRUCTIONS],
-    seconds: &[u8; Circuit::MOST_INSTRUCTIONS],
-    first: Wire,
-    second: Wire,
-    after_first: u16,
-    after_second: u16,
-    indices: &mut [u16; Circuit::MOST_WIRES],
-    candidates: &mut [u16; Circuit::MOST_WIRES],
-)
-    requires fit { Fit valid lenders.now indices.old candidates.old firsts.now seconds.now }
-    requires first_lt_most_wires { (first.0 < most_wires) × (second.0 < most_wires) }
-    ensures indices_after { indices.new ≡ headed first.0 second.0 after_first after_second indices.old }
-    ensures candidates_after { candidates.new ≡ tried_both lenders.now indices.new valid forms.now firsts.now seconds.now first.0 second.0 candidates.old }
-{
-    set_heads(first, second, after_first, after_second, indices);
-    try_moved(
-        lenders, valid, indices, forms, firsts, seconds, first, candidates,
-    );
-    if first.0 != second.0 {
-        try_moved(
-            lenders, valid, indices, forms, firsts, seconds, second, candidates,
-        );
-    }
-}
-
-// The least candidate.
-pub(crate) fn least(candidates: &[u16; Circuit::MOST_WIRES]) -> u16
-    requires { length candidates.now ≡ most_wires }
-    ensures { Least candidates.now most_wires result }
-{
-    let mut lowest = candidates[0];
-    let mut x = 1;
-    while x < Circuit::MOST_WIRES {
-        if candidates[x] < lowest {
-            lowest = candidates[x];
-        }
-        x += 1;
-    }
-    lowest
 }

@@ -3,13 +3,13 @@ ghost use Rattle.std.specs.Prelude.{◌∷◌, ℕ, ◌+◌, ◌-◌, ◌<◌, �
 ghost use Rattle.writing.specs.Writing.{Wrote};
 ghost use Rattle.records.specs.Bytes.{instruction_bytes};
 ghost use Rattle.records.specs.declared.instructions.Instruction.{Instruction};
-ghost use Rattle.circuits.specs.Limits.{most_wires};
-ghost use Rattle.writer.specs.Heads.{Noted};
+ghost use Rattle.writer.specs.Notes.{place_at, Noted};
 ghost use Rattle.writer.specs.Outputs.{renamed, behind};
 
-use crate::noting::TWO;
+use crate::notes::Form;
 use crate::renaming::Renaming;
-use records::{Qubit, Wire};
+use crate::source::Source;
+use records::Qubit;
 use writing::put_bytes;
 
 // Writes the kind, the qubit, and what stands behind them.
@@ -50,34 +50,34 @@ fn copy_two(
     put_bytes(out, to + 3, &circuit[from + 3..next])
 }
 
-// Writes the instruction that stands from a place up to the next, with qubits for its wires, and gives the place after it.
+// Writes an instruction with qubits for its wires, and gives the place after it.
 pub(crate) fn copy_renamed(
-    circuit: &[u8],
-    from: usize,
-    next: usize,
-    form: u8,
-    first: Wire,
-    second: Wire,
+    source: &Source,
+    index: usize,
     renaming: Renaming,
     out: &mut [u8],
     to: usize,
 ) -> usize
-    requires by_index { (i : Instruction) × (left : ℕ) × Noted circuit.now from left next i form first.0 second.0 }
-    requires first_lt_most_wires { (first.0 < most_wires) × (second.0 < most_wires) }
-    requires from_in_bounds { to + (next - from) ≤ length out.old }
-    ensures { (i : Instruction) (left : ℕ) → Noted circuit.now from left next i form first.0 second.0 → Wrote out.old to (instruction_bytes (renamed (λ x. get_or renaming.qubits x 0) i)) out.new result }
+    requires index_lt_instructions { index < source.now.valid.instructions }
+    requires noted { (i : Instruction) × Noted source.now.circuit.now source.now.notes.now index i }
+    requires from_in_bounds { to + (place_at source.now.notes.now (index + 1) - place_at source.now.notes.now index) ≤ length out.old }
+    ensures { (i : Instruction) → Noted source.now.circuit.now source.now.notes.now index i → Wrote out.old to (instruction_bytes (renamed (λ x. get_or renaming.qubits x 0) i)) out.new result }
 {
-    if form == TWO {
+    let from = source.place(index);
+    let next = source.place_after(index);
+    let note = source.note(index);
+    let first = renaming.qubit(note.first);
+    if note.form == Form::Two {
         copy_two(
-            circuit,
+            source.circuit,
             from,
             next,
-            renaming.qubit(first),
-            renaming.qubit(second),
+            first,
+            renaming.qubit(note.second),
             out,
             to,
         )
     } else {
-        copy_one(circuit, from, next, renaming.qubit(first), out, to)
+        copy_one(source.circuit, from, next, first, out, to)
     }
 }

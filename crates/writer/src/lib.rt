@@ -7,8 +7,11 @@ mod choosing;
 mod compiling;
 mod copying;
 mod dynamic;
+mod heads;
+mod notes;
 mod noting;
 mod renaming;
 mod seeking;
+mod source;
 
 pub use compiling::{Compiling, Counts, compile};

@@ -3,11 +3,11 @@
 use mathlib.Core.Path.{refl, ◌∙◌}
 use native.Mathlib.Omega.{arith}
 use Rattle.circuits.proofs.Takes.{turn}
-use Rattle.writer.proofs.Notes.{noting_start, noting_told, kept_refused, kept_all, noting_below, noting_near, noting_on}
+use Rattle.writer.proofs.Kept.{noting_start, noting_told, kept_refused, kept_all, noting_below, noting_near, noting_on}
 use Rattle.writer.proofs.noting.note_steps.Goals as goal
 
 pub loop-progress-init : goal.loop-progress-init
-loop-progress-init c = let start = c.fresh-fresh.ensures in (rw start, rw start, noting_start _ _ (rw start) c.requires.kept c.requires.rows_value)
+loop-progress-init c = let start = c.fresh-fresh.ensures in (rw start, rw start, noting_start _ _ (rw start) c.requires.rows_value)
 
 pub overflow_sub-index : goal.overflow_sub-index
 overflow_sub-index c = c.loop-progress.invariant.2.few
@@ -16,13 +16,13 @@ pub returns-in-End : goal.returns-in-End
 returns-in-End c = let told = turn _ _ _ _ _ _ _ c.in-End.is (c.take_step.ensures.result_value, c.take_step.ensures.uses_after) in
     let g = c.loop-progress.invariant.2 in
     let kept = kept_all _ _ g c.requires.circuit_value _ told in
-    record { result_value = c.close.ensures ∙ noting_told _ _ g c.requires.circuit_value told; notes = kept.0; rows_after = kept.1 }
+    record { result_value = c.close.ensures ∙ noting_told _ _ g c.requires.circuit_value told; kept = kept.0; rows_after = kept.1 }
 
 pub returns-in-Refused : goal.returns-in-Refused
 returns-in-Refused c = let told = turn _ _ _ _ _ _ _ c.in-Refused.is (c.take_step.ensures.result_value, c.take_step.ensures.uses_after) in
     let g = c.loop-progress.invariant.2 in
     let kept = kept_refused _ _ g c.requires.circuit_value told refl in
-    record { result_value = noting_told _ _ g c.requires.circuit_value told; notes = kept.0; rows_after = kept.1 }
+    record { result_value = noting_told _ _ g c.requires.circuit_value told; kept = kept.0; rows_after = kept.1 }
 
 pub note-requires : goal.note-requires
 note-requires c = let taken = turn _ _ _ _ _ _ _ c.in-Step.is (c.take_step.ensures.result_value, c.take_step.ensures.uses_after) in
@@ -40,5 +40,5 @@ loop-progress-preserved c = let i = c.loop-progress.invariant in
     let taken = turn _ _ _ _ _ _ _ c.in-Step.is (c.take_step.ensures.result_value, c.take_step.ensures.uses_after) in (
       c.take_step.auto.progress ∙ i.0,
       c.take_step.auto.uses ∙ i.1,
-      noting_on _ _ i.2 taken c.note.ensures.forms_after c.note.ensures.firsts_after c.note.ensures.seconds_after c.note.ensures.places_after c.join_sets.ensures,
+      noting_on _ _ i.2 taken c.note.ensures.all_after c.note.ensures.places_after c.join_sets.ensures,
     )

@@ -4,11 +4,11 @@ use Prim.Native.Nat.{◌-◌}
 use mathlib.Core.Path.{◌≡◌}
 use lib.ListN.{length}
 use Rattle.circuits.specs.Limits.{most_wires, most_instructions}
-use Rattle.writer.proofs.Notes.{Noting}
+use Rattle.writer.proofs.Kept.{Noting}
 use Rattle.writer.proofs.noting.note_steps.Given as goal
 
 abbrev pub invariant-loop-progress : goal.invariant-loop-progress
-invariant-loop-progress l = (length l.progress ≡ most_wires) × (length l.uses ≡ most_wires) × Noting l.circuit l.width l.progress l.uses l.at l.index l.forms l.firsts l.seconds l.places l.rows
+invariant-loop-progress l = (length l.progress ≡ most_wires) × (length l.uses ≡ most_wires) × Noting l.circuit l.width l.progress l.uses l.at l.index l.notes l.rows
 
 abbrev pub decreases-loop-progress : goal.decreases-loop-progress
 decreases-loop-progress l = most_instructions - l.index

@@ -6,26 +6,17 @@ use Rattle.writer.proofs.Links.{linked_none, linked_more}
 use Rattle.writer.proofs.seeking.link.Goals as goal
 
 pub loop-index-init : goal.loop-index-init
-loop-index-init c = (omega arith, ap length c.requires.indices_value, c.requires.after_firsts_len.0, c.requires.after_firsts_len.1, λ is forms tab. linked_none tab.all c.requires.indices_value)
-
-pub bounds-firsts-index : goal.bounds-firsts-index
-bounds-firsts-index c = omega (arith, c.loop-index.invariant.0, c.requires.instructions_le_most_instructions.0)
-
-pub bounds-seconds-index : goal.bounds-seconds-index
-bounds-seconds-index c = omega (arith, c.loop-index.invariant.0, c.requires.instructions_le_most_instructions.0)
-
-pub link_one-requires : goal.link_one-requires
-link_one-requires c = let l = c.loop-index in record { first_lt_most_wires = c.requires.instructions_le_most_instructions.1 _ (omega (arith, l.invariant.0)); index_lt_most_instructions = omega (arith, l.invariant.0, c.requires.instructions_le_most_instructions.0) }
+loop-index-init c = record { sized = ap length c.requires; links_sized = c.told-links; linked = λ is tab. linked_none tab.all c.requires }
 
 pub loop-index-preserved : goal.loop-index-preserved
-loop-index-preserved c = let l = c.loop-index in (
-  omega (arith, l.invariant.0),
-  ap length c.link_one.ensures.indices_after ∙ simp length-set l.invariant.1,
-  ap length c.link_one.ensures.after_firsts_after ∙ simp length-set l.invariant.2,
-  ap length c.link_one.ensures.after_seconds_after ∙ simp length-set l.invariant.3,
-  λ is forms tab. linked_more tab (omega (arith, l.invariant.0)) (omega (arith, l.invariant.0, c.requires.instructions_le_most_instructions.0)) _ l.invariant.1 (omega arith) (l.invariant.4 is forms tab) l.invariant.2 l.invariant.3
-      refl refl c.link_one.ensures.indices_after c.link_one.ensures.after_firsts_after c.link_one.ensures.after_seconds_after,
-)
+loop-index-preserved c = let h = c.loop-index.invariant in
+    record {
+      sized = ap length c.set_heads.ensures ∙ simp length-set h.sized;
+      links_sized = simp length-set h.links_sized;
+      linked = λ is tab. linked_more tab (omega arith) _ h.sized (omega arith) (h.linked is tab) h.links_sized
+          (rw (c.note-note.ensures, c.both.ensures.0, c.both.ensures.1) at c.set_heads.ensures) refl
+          (rw c.note-note.ensures at c.of_wire.ensures) (rw c.note-note.ensures at c.of_wire-in-loop-index.ensures);
+    }
 
 pub returns : goal.returns
-returns c = let e : c.loop-index.index ≡ 0 = omega arith in record { indices_len = c.loop-index.invariant.1; linked = λ is forms tab. rw e at (c.loop-index.invariant.4 is forms tab) }
+returns c = let e : c.loop-index.index ≡ 0 = omega arith in rw e at c.loop-index.invariant.linked

@@ -1,5 +1,4 @@
 -- `writer::seeking::link` meets its contract: before each turn the instructions from the index on are linked. Assumes nothing.
-use Prim.Native.Nat.{ℕ, ◌≤◌}
 use mathlib.Core.Path.{◌≡◌}
 use mathlib.Core.List.{List}
 use lib.ListN.{length}
@@ -9,8 +8,8 @@ use Rattle.writer.specs.Heads.{Tabled, Linked}
 use Rattle.writer.proofs.seeking.link.Given as goal
 
 abbrev pub invariant-loop-index : goal.invariant-loop-index
-invariant-loop-index l = (l.index ≤ l.instructions) × (length l.indices ≡ most_wires) × (length l.after_firsts ≡ most_instructions) × (length l.after_seconds ≡ most_instructions)
-    × ((is : List Instruction) (forms : List ℕ) → Tabled is l.instructions forms l.firsts l.seconds → Linked is l.index l.indices l.after_firsts l.after_seconds)
-
-abbrev pub decreases-loop-index : goal.decreases-loop-index
-decreases-loop-index l = l.index
+invariant-loop-index l = record {
+  sized : length l.indices ≡ most_wires;
+  links_sized : length l.links ≡ most_instructions;
+  linked : (is : List Instruction) → Tabled is l.source → Linked is l.index l.indices l.links;
+}

@@ -24,33 +24,19 @@ use Rattle.circuits.proofs.Takes.{Taken}
 use Rattle.circuits.proofs.Turns.{counted-before, reads_after}
 use Rattle.table.specs.Starting.{no_rows, rows_sketched, rows_pass}
 use Rattle.table.proofs.StartRows.{pass_more, pass_over}
-use Rattle.writer.specs.Heads.{form_of, first_wire, second_wire, form_sketched, first_sketched, second_sketched, Kept, Noted, Notes}
+use Rattle.writer.specs.Notes.{noted, note_of, note_sketched, note_at, place_at, Noted, Kept}
+use Rattle.writer.specs.declared.notes.Form.TheVariants as form
+use Rattle.writer.specs.declared.notes.Notes.{Notes}
 
 -- ## An instruction and its sketch
 
-form_like : (i : Instruction) → form_sketched (sketch_of i) ≡ form_of i
-form_like (Reset l) = refl
-form_like (Measurement l b) = refl
-form_like (Gate k l) = refl
-form_like (AngledGate k l a) = refl
-form_like (TwoLineGate k l m) = refl
-form_like (AngledTwoLineGate k l m a) = refl
-
-first_like : (i : Instruction) → first_sketched (sketch_of i) ≡ first_wire i
-first_like (Reset l) = refl
-first_like (Measurement l b) = refl
-first_like (Gate k l) = refl
-first_like (AngledGate k l a) = refl
-first_like (TwoLineGate k l m) = refl
-first_like (AngledTwoLineGate k l m a) = refl
-
-second_like : (i : Instruction) → second_sketched (sketch_of i) ≡ second_wire i
-second_like (Reset l) = refl
-second_like (Measurement l b) = refl
-second_like (Gate k l) = refl
-second_like (AngledGate k l a) = refl
-second_like (TwoLineGate k l m) = refl
-second_like (AngledTwoLineGate k l m a) = refl
+note_like : (i : Instruction) → note_sketched (sketch_of i) ≡ note_of i
+note_like (Reset l) = refl
+note_like (Measurement l b) = refl
+note_like (Gate k l) = refl
+note_like (AngledGate k l a) = refl
+note_like (TwoLineGate k l m) = refl
+note_like (AngledTwoLineGate k l m a) = refl
 
 -- ## The instructions read so far, before what is read from there on
 
@@ -93,49 +79,47 @@ last_or_before (y ∷ ys) x (suc k) e = elim (last_or_before ys x k e) [
 ]
 
 -- of a refused circuit nothing need be kept
-module _ {s : List ℕ} {n p : ℕ} {forms firsts seconds places rows : List ℕ} where
+module _ {s : List ℕ} {n p : ℕ} {notes : Notes} {rows : List ℕ} where
   refused_kept : read_circuit s ≡ refused n p
-      → Notes s (steps_of (read_circuit s)) forms firsts seconds places × ((c : Static) → read_circuit s ≡ done c → rows ≡ rows_pass c.steps no_rows)
+      → Kept s (steps_of (read_circuit s)) notes × ((c : Static) → read_circuit s ≡ done c → rows ≡ rows_pass c.steps no_rows)
   refused_kept e = (
-    subst (λ is. Notes s is forms firsts seconds places) (sym (ap steps_of e)) (record { each = λ k i h. (let z : ◌≡◌ {A = ℕ} 0 1 = cc in absurd (omega arith)) }),
+    subst (λ is. Kept s is notes) (sym (ap steps_of e)) (record { each = λ k i h. (let z : ◌≡◌ {A = ℕ} 0 1 = cc in absurd (omega arith)) }),
     λ c h. (let z : ◌≡◌ {A = ℕ} 0 1 = cc in absurd (omega arith)),
   )
 
   pub header_refused : header_of s ≡ refused n p
       → (refused n p ≡ summary (read_circuit s))
-      × (Notes s (steps_of (read_circuit s)) forms firsts seconds places × ((c : Static) → read_circuit s ≡ done c → rows ≡ rows_pass c.steps no_rows))
+      × (Kept s (steps_of (read_circuit s)) notes × ((c : Static) → read_circuit s ≡ done c → rows ≡ rows_pass c.steps no_rows))
   unfolding read_circuit
   header_refused h = let e : read_circuit s ≡ refused n p = rw h in (sym (ap summary e), refused_kept e)
 
 module _ (s : List ℕ) (width : ℕ) where
   -- so many instructions are read and kept, and the next stands at a place, which is near enough for its number to fit
-  pub record Noting (progress uses : List ℕ) (at index : ℕ) (forms firsts seconds places rows : List ℕ) : Type 0 where
+  pub record Noting (progress uses : List ℕ) (at index : ℕ) (notes : Notes) (rows : List ℕ) : Type 0 where
     pub read : List Instruction
     pub many : length read ≡ index
     pub few : index ≤ most_instructions
     pub whole : read_from most_instructions s width fresh_states header_length ≡ behind_all read (read_from (most_instructions - index) s width (states_of progress uses) at)
-    pub notes : Notes s read forms firsts seconds places
-    pub here : get_or places index 0 ≡ at
+    pub all : Kept s read notes
+    pub here : place_at notes index ≡ at
     pub near : at ≤ header_length + index * longest_record
-    pub kept : Kept forms firsts seconds places
     pub passed : rows ≡ rows_pass read no_rows
 
-  pub noting_start : {progress uses forms firsts seconds places rows : List ℕ} → states_of progress uses ≡ fresh_states → Kept forms firsts seconds places → rows ≡ no_rows
-      → Noting progress uses header_length 0 forms firsts seconds places rows
+  pub noting_start : {progress uses : List ℕ} {notes : Notes} {rows : List ℕ} → states_of progress uses ≡ fresh_states → rows ≡ no_rows
+      → Noting progress uses header_length 0 notes rows
   unfolding behind_all
-  noting_start e k r = record {
+  noting_start {notes = notes} e r = record {
     read = [];
     many = refl;
     few = omega arith;
     whole = ap (λ c. read_from most_instructions s width c header_length) (sym e);
-    notes = record { each = λ k i h. (let z : ◌≡◌ {A = ℕ} 0 1 = cc in absurd (omega arith)) };
-    here = k.header;
+    all = record { each = λ k i h. (let z : ◌≡◌ {A = ℕ} 0 1 = cc in absurd (omega arith)) };
+    here = notes.header;
     near = omega arith;
-    kept = k;
     passed = r ∙ sym (pass_over no_rows refl);
   }
 
-  module _ {progress uses : List ℕ} {at index : ℕ} {forms firsts seconds places rows : List ℕ} (g : Noting progress uses at index forms firsts seconds places rows) where
+  module _ {progress uses : List ℕ} {at index : ℕ} {notes : Notes} {rows : List ℕ} (g : Noting progress uses at index notes rows) where
     abbrev left : ℕ
     left = most_instructions - index
 
@@ -155,7 +139,7 @@ module _ (s : List ℕ) (width : ℕ) where
 
       -- what is kept at the end is kept of all instructions
       abbrev pub AllKept : Type 0
-      AllKept = Notes s (steps_of (read_circuit s)) forms firsts seconds places × ((c : Static) → read_circuit s ≡ done c → rows ≡ rows_pass c.steps no_rows)
+      AllKept = Kept s (steps_of (read_circuit s)) notes × ((c : Static) → read_circuit s ≡ done c → rows ≡ rows_pass c.steps no_rows)
 
       pub kept_refused : {n p : ℕ} → o ≡ refused n p → AllKept
       kept_refused {n} {p} e =
@@ -165,12 +149,12 @@ module _ (s : List ℕ) (width : ℕ) where
       kept_ended e =
           let z : read_circuit s ≡ done (record { width = width; steps = g.read }) =
           is_read ∙ ap (λ r. widthened width (behind_all g.read r)) e ∙ ap (widthened width) (behind_ended g.read) in (
-            subst (λ is. Notes s is forms firsts seconds places) (sym (ap steps_of z)) g.notes,
+            subst (λ is. Kept s is notes) (sym (ap steps_of z)) g.all,
             λ c h. g.passed ∙ ap (λ r. rows_pass (steps_of r) no_rows) (sym z ∙ h),
           )
 
     pub kept_all : header_of s ≡ done width → (lines : List ℕ) → read_from left s width (states_of progress uses) at ≡ ending width lines
-        → Notes s (steps_of (read_circuit s)) forms firsts seconds places × ((c : Static) → read_circuit s ≡ done c → rows ≡ rows_pass c.steps no_rows)
+        → Kept s (steps_of (read_circuit s)) notes × ((c : Static) → read_circuit s ≡ done c → rows ≡ rows_pass c.steps no_rows)
     unfolding ending
     kept_all header lines e = elim (true_or_false (ltb (first_unfinished width lines 0) width)) [
       | inl h ↦ kept_refused header e {n = 13} {p = first_unfinished width lines 0} (rw h)
@@ -186,10 +170,9 @@ module _ (s : List ℕ) (width : ℕ) where
       pub noting_near : next < deciding_bytes
       noting_near = omega (arith, g.near, step_short s at left t.stands, noting_below)
 
-      pub noting_on : {newForms newFirsts newSeconds newPlaces newRows : List ℕ} → newForms ≡ set forms index (form_sketched k) → newFirsts ≡ set firsts index (first_sketched k)
-          → newSeconds ≡ set seconds index (second_sketched k) → newPlaces ≡ set places (index + 1) next → newRows ≡ rows_sketched k rows
-          → Noting newProgress newUses next (index + 1) newForms newFirsts newSeconds newPlaces newRows
-      noting_on {newForms} {newFirsts} {newSeconds} {newPlaces} forms-are firsts-are seconds-are places-are rows_are =
+      pub noting_on : {newNotes : Notes} {newRows : List ℕ} → newNotes.all ≡ set notes.all index (note_sketched k) → newNotes.places ≡ set notes.places (index + 1) next
+          → newRows ≡ rows_sketched k rows → Noting newProgress newUses next (index + 1) newNotes newRows
+      noting_on {newNotes} all-are places-are rows_are =
           let it = t.instruction in
           let low = noting_below in
           let less : left - 1 ≡ most_instructions - (index + 1) = omega arith in
@@ -199,45 +182,35 @@ module _ (s : List ℕ) (width : ℕ) where
             few = omega arith;
             whole = g.whole ∙ ap (behind_all g.read) t.goes_on ∙ sym (behind_last g.read it _)
                 ∙ ap (λ n. behind_all (g.read ++ it ∷ []) (read_from n s width (states_of newProgress newUses) next)) less;
-            notes = record {
+            all = record {
               each = λ j i e. elim (last_or_before g.read it j e) [
-                | inl q ↦ subst (λ z. Noted s (get_or newPlaces z 0) (most_instructions - z) (get_or newPlaces (z + 1) 0) i (get_or newForms z 0) (get_or newFirsts z 0) (get_or newSeconds z 0)) (sym (q.0 ∙ g.many))
-                    (subst (λ z. Noted s (get_or newPlaces index 0) left (get_or newPlaces (index + 1) 0) z (get_or newForms index 0) (get_or newFirsts index 0) (get_or newSeconds index 0)) (sym q.1) new_noted)
-                | inr q ↦ old_noted j i (omega (arith, q.0, g.many)) (g.notes.each j i q.1)
+                | inl q ↦ subst (λ z. Noted s newNotes z i) (sym (q.0 ∙ g.many)) (subst (Noted s newNotes index) (sym q.1) new_noted)
+                | inr q ↦ old_noted j i (omega (arith, q.0, g.many)) (g.all.each j i q.1)
               ];
             };
-            here = ap (λ z. get_or z (index + 1) 0) places-are ∙ get_or-set_same places (index + 1) next 0 (omega (arith, g.kept.sized_places));
+            here = after;
             near = omega (arith, g.near, step_short s at left t.stands);
-            kept = record {
-              sized_forms = ap length forms-are ∙ length-set forms index _ ∙ g.kept.sized_forms;
-              sized_firsts = ap length firsts-are ∙ length-set firsts index _ ∙ g.kept.sized_firsts;
-              sized_seconds = ap length seconds-are ∙ length-set seconds index _ ∙ g.kept.sized_seconds;
-              sized_places = ap length places-are ∙ length-set places (index + 1) _ ∙ g.kept.sized_places;
-              header = ap (λ z. get_or z 0 0) places-are ∙ get_or-set_other places (index + 1) 0 next 0 (λ e. omega arith) ∙ g.kept.header;
-            };
             passed = pass_more g.read it g.passed t.like rows_are;
           }
         where
-          new_noted : Noted s (get_or newPlaces index 0) left (get_or newPlaces (index + 1) 0) t.instruction (get_or newForms index 0) (get_or newFirsts index 0) (get_or newSeconds index 0)
+          after : place_at newNotes (index + 1) ≡ next
+          after = ap (λ z. get_or z (index + 1) 0) places-are ∙ get_or-set_same notes.places (index + 1) next 0 (omega (arith, noting_below, notes.sized_places))
+
+          new_noted : Noted s newNotes index t.instruction
           new_noted =
               let low = noting_below in
-              let stood : get_or newPlaces index 0 ≡ at = ap (λ z. get_or z index 0) places-are ∙ get_or-set_other places (index + 1) index next 0 (λ e. omega arith) ∙ g.here in
-              let after : get_or newPlaces (index + 1) 0 ≡ next = ap (λ z. get_or z (index + 1) 0) places-are ∙ get_or-set_same places (index + 1) next 0 (omega (arith, g.kept.sized_places)) in
+              let stood : place_at newNotes index ≡ at = ap (λ z. get_or z index 0) places-are ∙ get_or-set_other notes.places (index + 1) index next 0 (λ e. omega arith) ∙ g.here in
               record {
                 stands = rw (stood, after) t.stands;
-                form_is = ap (λ z. get_or z index 0) forms-are ∙ get_or-set_same forms index _ 0 (omega (arith, g.kept.sized_forms)) ∙ ap form_sketched (sym t.like) ∙ form_like t.instruction;
-                first_is = ap (λ z. get_or z index 0) firsts-are ∙ get_or-set_same firsts index _ 0 (omega (arith, g.kept.sized_firsts)) ∙ ap first_sketched (sym t.like) ∙ first_like t.instruction;
-                second_is = ap (λ z. get_or z index 0) seconds-are ∙ get_or-set_same seconds index _ 0 (omega (arith, g.kept.sized_seconds)) ∙ ap second_sketched (sym t.like) ∙ second_like t.instruction;
+                note = ap (λ z. get_or z index (noted form.One 0 0)) all-are ∙ get_or-set_same notes.all index _ _ (omega (arith, notes.sized))
+                    ∙ ap note_sketched (sym t.like) ∙ note_like t.instruction;
               }
 
-          old_noted : (j : ℕ) (i : Instruction) → j < index → Noted s (get_or places j 0) (most_instructions - j) (get_or places (j + 1) 0) i (get_or forms j 0) (get_or firsts j 0) (get_or seconds j 0)
-              → Noted s (get_or newPlaces j 0) (most_instructions - j) (get_or newPlaces (j + 1) 0) i (get_or newForms j 0) (get_or newFirsts j 0) (get_or newSeconds j 0)
+          old_noted : (j : ℕ) (i : Instruction) → j < index → Noted s notes j i → Noted s newNotes j i
           old_noted j i l n = record {
             stands = rw (
-              ap (λ z. get_or z j 0) places-are ∙ get_or-set_other places (index + 1) j next 0 (λ e. omega arith),
-              ap (λ z. get_or z (j + 1) 0) places-are ∙ get_or-set_other places (index + 1) (j + 1) next 0 (λ e. omega arith),
+              ap (λ z. get_or z j 0) places-are ∙ get_or-set_other notes.places (index + 1) j next 0 (λ e. omega arith),
+              ap (λ z. get_or z (j + 1) 0) places-are ∙ get_or-set_other notes.places (index + 1) (j + 1) next 0 (λ e. omega arith),
             ) n.stands;
-            form_is = ap (λ z. get_or z j 0) forms-are ∙ get_or-set_other forms index j _ 0 (λ e. omega arith) ∙ n.form_is;
-            first_is = ap (λ z. get_or z j 0) firsts-are ∙ get_or-set_other firsts index j _ 0 (λ e. omega arith) ∙ n.first_is;
-            second_is = ap (λ z. get_or z j 0) seconds-are ∙ get_or-set_other seconds index j _ 0 (λ e. omega arith) ∙ n.second_is;
+            note = ap (λ z. get_or z j (noted form.One 0 0)) all-are ∙ get_or-set_other notes.all index j _ _ (λ e. omega arith) ∙ n.note;
           }

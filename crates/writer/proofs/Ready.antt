@@ -21,71 +21,73 @@ use Rattle.records.specs.Records.{line}
 use Rattle.records.specs.declared.instructions.Instruction.{Instruction}
 use Rattle.records.specs.declared.instructions.Instruction.TheVariants.{Reset, Measurement, Gate, AngledGate, TwoLineGate, AngledTwoLineGate}
 use Rattle.circuits.specs.Reading.{Static}
-use Rattle.circuits.specs.declared.circuit.Circuit.{Circuit}
 use Rattle.precedence.specs.Lives.{lines_of, touches, resets}
 use Rattle.precedence.specs.Precedence.{holds, at, on, meas_of, circuit_of, Wired}
 use Rattle.precedence.proofs.Precedence.{must_exactly, prec_exactly, on-prec, spans, reset_there, meas_on, prec_meas, circuit_lawful}
 use Rattle.precedence.proofs.Spans.{at_inside}
 use Rattle.pairs.specs.Lending.{lender_of, takes, pairs_of}
-use Rattle.writer.specs.Heads.{form_of, first_wire, NextOn, Tabled, is_free, may_write, candidate}
-use Rattle.writer.proofs.Wires.{first_in, second_in, wire_on, on_wire, there}
+use Rattle.writer.specs.Notes.{form_of, first_wire, note_at, first_at, second_at}
+use Rattle.writer.specs.Heads.{NextOn, Tabled, is_reset, is_free, may_write, candidate}
+use Rattle.writer.specs.declared.source.Source.{Source}
+use Rattle.writer.proofs.Wires.{first_in, second_in, wire_on, on_wire, there, first_tabled, second_tabled, reset_tabled}
 use Rattle.writer.proofs.Pairs.{pair_in, pair_says}
 
 -- ## What a head that may be written tells
 
-module _ (lenders indices : List ℕ) (c : Circuit) (forms firsts seconds : List ℕ) where
+module _ (s : Source) (indices : List ℕ) where
   -- a wire that takes is free exactly when its lender's head is past the last instruction
-  free_exactly : (x : ℕ) → (is_free lenders indices c x ≡ true) ↔ (takes lenders c.width x ≡ true → get_or indices (lender_of lenders x) 0 ≡ c.instructions)
+  free_exactly : (x : ℕ) → (is_free s indices x ≡ true)
+      ↔ (takes s.lenders.lenders s.valid.width x ≡ true → get_or indices (lender_of s.lenders.lenders x) 0 ≡ s.valid.instructions)
   unfolding is_free
   free_exactly x = (
-    λ h t. eqb-true _ _ (implied (takes lenders c.width x) _ h t),
-    λ h. implies (takes lenders c.width x) _ (λ t. eq-eqb _ _ (h t)),
+    λ h t. eqb-true _ _ (implied (takes s.lenders.lenders s.valid.width x) _ h t),
+    λ h. implies (takes s.lenders.lenders s.valid.width x) _ (λ t. eq-eqb _ _ (h t)),
   )
 
   -- an instruction is the head of its wires, and where it is a reset all on the lender of its wire is written
   pub record May (k : ℕ) : Type 0 where
-    pub inside : k < c.instructions
-    pub first : get_or indices (get_or firsts k 0) 0 ≡ k
-    pub second : get_or indices (get_or seconds k 0) 0 ≡ k
-    pub free : get_or forms k 0 ≡ 0 → takes lenders c.width (get_or firsts k 0) ≡ true → get_or indices (lender_of lenders (get_or firsts k 0)) 0 ≡ c.instructions
+    pub inside : k < s.valid.instructions
+    pub first : get_or indices (first_at s.notes.now k) 0 ≡ k
+    pub second : get_or indices (second_at s.notes.now k) 0 ≡ k
+    pub free : is_reset (note_at s.notes.now k).form ≡ true → takes s.lenders.lenders s.valid.width (first_at s.notes.now k) ≡ true
+        → get_or indices (lender_of s.lenders.lenders (first_at s.notes.now k)) 0 ≡ s.valid.instructions
 
-  pub may_tells : (x : ℕ) → candidate lenders indices c forms firsts seconds x ≡ true → May (get_or indices x 0)
+  pub may_tells : (x : ℕ) → candidate s indices x ≡ true → May (get_or indices x 0)
   unfolding candidate may_write
   may_tells x h =
       let index = get_or indices x 0 in
-      let b = both (ltb index c.instructions) _ h in
-      let f = both (eqb (get_or indices (get_or firsts index 0) 0) index) _ b.1 in
-      let s = both (eqb (get_or indices (get_or seconds index 0) 0) index) _ f.1 in
+      let b = both (ltb index s.valid.instructions) _ h in
+      let f = both (eqb (get_or indices (first_at s.notes.now index) 0) index) _ b.1 in
+      let s' = both (eqb (get_or indices (second_at s.notes.now index) 0) index) _ f.1 in
       record {
-        inside = ltb-true index c.instructions b.0;
+        inside = ltb-true index s.valid.instructions b.0;
         first = eqb-true _ index f.0;
-        second = eqb-true _ index s.0;
-        free = λ r. (free_exactly (get_or firsts index 0)).0 (implied (eqb (get_or forms index 0) 0) _ s.1 (eq-eqb _ _ r));
+        second = eqb-true _ index s'.0;
+        free = λ r. (free_exactly (first_at s.notes.now index)).0 (implied (is_reset (note_at s.notes.now index).form) _ s'.1 r);
       }
 
-  pub may_holds : (x : ℕ) → May (get_or indices x 0) → candidate lenders indices c forms firsts seconds x ≡ true
+  pub may_holds : (x : ℕ) → May (get_or indices x 0) → candidate s indices x ≡ true
   unfolding candidate may_write
   may_holds x g =
       let index = get_or indices x 0 in
-      and_intro (ltb index c.instructions) _ (lt-ltb index c.instructions g.inside)
-      (and_intro (eqb (get_or indices (get_or firsts index 0) 0) index) _ (eq-eqb _ _ g.first)
-      (and_intro (eqb (get_or indices (get_or seconds index 0) 0) index) _ (eq-eqb _ _ g.second)
-      (implies (eqb (get_or forms index 0) 0) _ (λ r. (free_exactly (get_or firsts index 0)).1 (g.free (eqb-true _ _ r))))))
+      and_intro (ltb index s.valid.instructions) _ (lt-ltb index s.valid.instructions g.inside)
+      (and_intro (eqb (get_or indices (first_at s.notes.now index) 0) index) _ (eq-eqb _ _ g.first)
+      (and_intro (eqb (get_or indices (second_at s.notes.now index) 0) index) _ (eq-eqb _ _ g.second)
+      (implies (is_reset (note_at s.notes.now index).form) _ (λ r. (free_exactly (first_at s.notes.now index)).1 (g.free r)))))
 
   -- wires with the same head are candidates alike
-  pub may_same : (x y : ℕ) → get_or indices y 0 ≡ get_or indices x 0 → candidate lenders indices c forms firsts seconds x ≡ true
-      → candidate lenders indices c forms firsts seconds y ≡ true
+  pub may_same : (x y : ℕ) → get_or indices y 0 ≡ get_or indices x 0 → candidate s indices x ≡ true → candidate s indices y ≡ true
   unfolding candidate
-  may_same x y e h = subst (λ k. (ltb k c.instructions && may_write lenders indices c k (get_or forms k 0) (get_or firsts k 0) (get_or seconds k 0)) ≡ true) (sym e) h
+  may_same x y e h = subst (λ k. (ltb k s.valid.instructions && may_write s indices k) ≡ true) (sym e) h
 
 -- an instruction of the form of resets is one
-is_reset : (i : Instruction) → form_of i ≡ 0 → i ≡ Reset (line (first_wire i))
-is_reset (Reset l) h = refl
-is_reset (Measurement l b) h = absurd (omega arith)
-is_reset (Gate k l) h = absurd (omega arith)
-is_reset (AngledGate k l a) h = absurd (omega arith)
-is_reset (TwoLineGate k l m) h = absurd (omega arith)
-is_reset (AngledTwoLineGate k l m a) h = absurd (omega arith)
+is_one : (i : Instruction) → is_reset (form_of i) ≡ true → i ≡ Reset (line (first_wire i))
+is_one (Reset l) h = refl
+is_one (Measurement l b) h = cc
+is_one (Gate k l) h = cc
+is_one (AngledGate k l a) h = cc
+is_one (TwoLineGate k l m) h = cc
+is_one (AngledTwoLineGate k l m a) h = cc
 
 -- ## A wire's head
 
@@ -139,30 +141,28 @@ module _ (is : List Instruction) (x : ℕ) where
 
 -- ## What may be written is what is ready
 
-module _ (c : Static) (wired : Wired c) (lenders indices : List ℕ) (told : Circuit) (wide : told.width ≡ c.width)
-    (many : told.instructions ≡ length c.steps) (done : List ℕ)
-    (w : Written (circuit_of c) (pairs_of lenders c.width) done)
-    {forms firsts seconds : List ℕ} (tab : Tabled c.steps told.instructions forms firsts seconds)
+module _ (c : Static) (wired : Wired c) (s : Source) (indices : List ℕ) (wide : s.valid.width ≡ c.width) (done : List ℕ)
+    (w : Written (circuit_of c) (pairs_of s.lenders.lenders c.width) done) (tab : Tabled c.steps s)
     (heads : (x : ℕ) → x < c.width → Head c.steps done x (get_or indices x 0)) where
   abbrev law : Lawful (circuit_of c)
   law = circuit_lawful c wired
 
   abbrev ps : List Pair
-  ps = pairs_of lenders c.width
+  ps = pairs_of s.lenders.lenders c.width
 
   abbrev may : ℕ → Bool
-  may = candidate lenders indices told forms firsts seconds
+  may = candidate s indices
 
   below : (x k : ℕ) → on c.steps x k ≡ true → x < c.width
   below x k o = ltb-true x c.width (wired.named x k o)
 
   -- all on a wire is written exactly when its measurement is
-  lender_past : (l : ℕ) → l < c.width → get_or indices l 0 ≡ told.instructions → In (meas_of c.steps l) done
+  lender_past : (l : ℕ) → l < c.width → get_or indices l 0 ≡ s.valid.instructions → In (meas_of c.steps l) done
   lender_past l b e =
       let o = meas_on c wired l (lt-ltb l c.width b) in
       (heads l b).past (meas_of c.steps l) (omega (arith, at_inside (touches l) c.steps (meas_of c.steps l) o)) o
 
-  lender_over : (l : ℕ) → l < c.width → In (meas_of c.steps l) done → get_or indices l 0 ≡ told.instructions
+  lender_over : (l : ℕ) → l < c.width → In (meas_of c.steps l) done → get_or indices l 0 ≡ s.valid.instructions
   lender_over l b m = elim (below_or_not (get_or indices l 0) (length c.steps)) [
     | inl k ↦ (let o = (heads l b).here k in
         absurd ((heads l b).coming (get_or indices l 0) (omega arith) o
@@ -178,7 +178,7 @@ module _ (c : Static) (wired : Wired c) (lenders indices : List ℕ) (told : Cir
   pub may-ready : (x : ℕ) → x < c.width → may x ≡ true → ready (circuit_of c) ps done (get_or indices x 0) ≡ true
   may-ready x b m =
       let j = get_or indices x 0 in
-      let g = may_tells lenders indices told forms firsts seconds x m in
+      let g = may_tells s indices x m in
       let l : j < length c.steps = omega (arith, g.inside, tab.all) in
       let it = there c.steps j l in
       (ready_exactly (circuit_of c) law ps done j).1 (
@@ -187,18 +187,18 @@ module _ (c : Static) (wired : Wired c) (lenders indices : List ℕ) (told : Cir
           | inl p ↦ (let y = (prec_exactly c.steps i j).0 p in
               let u = (must_exactly c.steps y.0 i j).0 y.1 in
               let h : get_or indices y.0 0 ≡ j = elim (on_wire c.steps j it.1 y.0 u.2) [
-                | inl e ↦ ap (λ z. get_or indices z 0) (e ∙ sym (tab.first j it.0 it.1)) ∙ g.first
-                | inr e ↦ ap (λ z. get_or indices z 0) (e ∙ sym (tab.second j it.0 it.1)) ∙ g.second
+                | inl e ↦ ap (λ z. get_or indices z 0) (e ∙ sym (first_tabled tab j it.0 it.1)) ∙ g.first
+                | inr e ↦ ap (λ z. get_or indices z 0) (e ∙ sym (second_tabled tab j it.0 it.1)) ∙ g.second
               ] in
               (heads y.0 (below y.0 i u.1)).past i (omega arith) u.1)
           | inr q ↦ (let t = q.0.1 in
-              let k = pair_in lenders c.width q.0.0 t q.1 in
+              let k = pair_in s.lenders.lenders c.width q.0.0 t q.1 in
               let same : it.0 ≡ Reset (line t) = cc (it.1, ap (get_elem? c.steps) q.3, reset_there c wired t (lt-ltb t c.width k.taker)) in
-              let wire : get_or firsts j 0 ≡ t = tab.first j it.0 it.1 ∙ ap first_wire same in
-              let f = g.free (tab.form j it.0 it.1 ∙ ap form_of same)
-              (subst (λ v. takes lenders v (get_or firsts j 0) ≡ true) (sym wide) (subst (λ z. takes lenders c.width z ≡ true) (sym wire) k.takes)) in
+              let wire : first_at s.notes.now j ≡ t = first_tabled tab j it.0 it.1 ∙ ap first_wire same in
+              let f = g.free (reset_tabled tab j it.0 it.1 ∙ ap (λ i. is_reset (form_of i)) same)
+              (subst (λ v. takes s.lenders.lenders v (first_at s.notes.now j) ≡ true) (sym wide) (subst (λ z. takes s.lenders.lenders c.width z ≡ true) (sym wire) k.takes)) in
               subst (λ z. In z done) (sym q.2)
-              (lender_past q.0.0 k.lender (ap (λ z. get_or indices z 0) k.is ∙ ap (λ z. get_or indices (lender_of lenders z) 0) (sym wire) ∙ f)))
+              (lender_past q.0.0 k.lender (ap (λ z. get_or indices z 0) k.is ∙ ap (λ z. get_or indices (lender_of s.lenders.lenders z) 0) (sym wire) ∙ f)))
         ],
       )
 
@@ -225,27 +225,27 @@ module _ (c : Static) (wired : Wired c) (lenders indices : List ℕ) (told : Cir
       let i = there c.steps j l in
       let x = first_wire i.0 in
       let onto : ((y : ℕ) → In y (lines_of i.0) → on c.steps y j ≡ true) = wire_on c.steps j i.1 in
-      let first = tab.first j i.0 i.1 in
+      let first = first_tabled tab j i.0 i.1 in
       let e = ready_head j r x (onto x (first_in i.0)) in (
         x,
         below x j (onto x (first_in i.0)),
         e,
-        may_holds lenders indices told forms firsts seconds x (subst (May lenders indices told forms firsts seconds) (sym e) (record {
+        may_holds s indices x (subst (May s indices) (sym e) (record {
           inside = omega (arith, tab.all);
           first = ap (λ z. get_or indices z 0) first ∙ e;
-          second = ap (λ z. get_or indices z 0) (tab.second j i.0 i.1) ∙ ready_head j r _ (onto _ (second_in i.0));
-          free = λ f t. ap (λ z. get_or indices (lender_of lenders z) 0) first
-              ∙ lender_done j r i.0 i.1 x (is_reset i.0 (sym (tab.form j i.0 i.1) ∙ f)) (subst (λ z. takes lenders told.width z ≡ true) first t);
+          second = ap (λ z. get_or indices z 0) (second_tabled tab j i.0 i.1) ∙ ready_head j r _ (onto _ (second_in i.0));
+          free = λ f t. ap (λ z. get_or indices (lender_of s.lenders.lenders z) 0) first
+              ∙ lender_done j r i.0 i.1 x (is_one i.0 (sym (reset_tabled tab j i.0 i.1) ∙ f)) (subst (λ z. takes s.lenders.lenders s.valid.width z ≡ true) first t);
         })),
       )
     where
       lender_done : (j : ℕ) → ready (circuit_of c) ps done j ≡ true → (i : Instruction) → get_elem? c.steps j ≡ some i → (t : ℕ) → i ≡ Reset (line t)
-          → takes lenders told.width t ≡ true → get_or indices (lender_of lenders t) 0 ≡ told.instructions
-      lender_done j r i e t s k =
-          let o : at (resets t) c.steps j ≡ true = ap (holds (resets t)) (e ∙ ap some s) ∙ eq-eqb t t refl in
-          let b = below t j (ap (holds (touches t)) (e ∙ ap some s) ∙ in_stands t (t ∷ []) (inl refl)) in
-          let k' = subst (λ v. takes lenders v t ≡ true) wide k in
+          → takes s.lenders.lenders s.valid.width t ≡ true → get_or indices (lender_of s.lenders.lenders t) 0 ≡ s.valid.instructions
+      lender_done j r i e t same k =
+          let o : at (resets t) c.steps j ≡ true = ap (holds (resets t)) (e ∙ ap some same) ∙ eq-eqb t t refl in
+          let b = below t j (ap (holds (touches t)) (e ∙ ap some same) ∙ in_stands t (t ∷ []) (inl refl)) in
+          let k' = subst (λ v. takes s.lenders.lenders v t ≡ true) wide k in
           let z = (spans c wired t (lt-ltb t c.width b)).one_reset j o in
-          lender_over (lender_of lenders t) (ltb-true _ _ k')
-          (((ready_exactly (circuit_of c) law ps done j).0 r).1 (meas_of c.steps (lender_of lenders t))
-          (arrow_pair (circuit_of c) ps (lender_of lenders t, t) (meas_of c.steps (lender_of lenders t)) j (pair_says lenders c.width t b k') refl z))
+          lender_over (lender_of s.lenders.lenders t) (ltb-true _ _ k')
+          (((ready_exactly (circuit_of c) law ps done j).0 r).1 (meas_of c.steps (lender_of s.lenders.lenders t))
+          (arrow_pair (circuit_of c) ps (lender_of s.lenders.lenders t, t) (meas_of c.steps (lender_of s.lenders.lenders t)) j (pair_says s.lenders.lenders c.width t b k') refl z))
