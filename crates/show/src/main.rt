@@ -2,8 +2,12 @@
 // length: it is read in pieces, and a record that is cut at a piece's end is kept for the next one.
 #![tactic(auto)]
 
+ghost use Rattle.std.specs.Prelude.{◌≤◌, length, IfOk, IfSome};
+
 use inputs::Reason;
+use std::fmt::{Display, Formatter, Write};
 use std::io::Read;
+use std::{fmt, io};
 
 // How many bytes are held at a time.
 const BUFFER: usize = 4096;
@@ -11,139 +15,115 @@ const BUFFER: usize = 4096;
 // Room for any line.
 const LINE: usize = 96;
 
-// What came of printing what stands at a place.
+// Why no more is printed.
 #[derive(Clone, Copy)]
-enum Printed {
-    // The line of a record or of a refusal.
-    Line,
-    // Nothing stands there, or a record that is cut where more may follow.
-    Nothing,
-    Failed,
+enum Failure {
+    Input(io::Error),
+    Output(io::Error),
 }
 
-// How far a piece is printed, and whether to read on.
-#[derive(Clone, Copy)]
-struct Shown {
-    at: usize,
-    on: bool,
+impl Display for Failure {
+    fn fmt<W: Write>(&self, f: &mut Formatter<W>) -> fmt::Result {
+        match self {
+            Failure::Input(e) => write!(f, "standard input: {}", Reason(*e)),
+            Failure::Output(e) => write!(f, "standard output: {}", Reason(*e)),
+        }
+    }
 }
 
-// The bytes that are kept at the buffer's front, their place in the input, and whether to read on.
+// A piece of the input: its bytes are the buffer's first `count`, and the first of them is at `place` of the input.
 #[derive(Clone, Copy)]
-struct Kept {
+struct Piece {
+    buffer: [u8; BUFFER],
     count: usize,
     place: usize,
-    on: bool,
+    ghost inside: { count ≤ length buffer },
 }
 
-// Prints what stands at a place of a piece that begins at `start` of the input; `last` says that no piece follows.
-fn print_at(
-    rt: &(impl Print + Eprint),
-    piece: &[u8],
-    at: usize,
-    start: usize,
-    last: bool,
-) -> Printed {
-    let mut line = [0u8; LINE];
-    let place = start.wrapping_add(at);
-    let length = texts::put_at(&mut line, 0, piece, at, place, last);
-    if length == 0 {
-        return Printed::Nothing;
-    }
-    match rt.write_all(&line[..length]) {
-        Ok(()) => Printed::Line,
-        Err(e) => {
-            let _ = eprintln!(rt; "standard output: {}", Reason(e));
-            Printed::Failed
+impl Piece {
+    // Before anything is read.
+    fn empty() -> Piece {
+        Piece {
+            buffer: [0; BUFFER],
+            count: 0,
+            place: 0,
         }
     }
-}
 
-// Prints the records of a piece, and after them a refusal. A record has a byte at least, so there are not more of them than
-// bytes.
-fn show(rt: &(impl Print + Eprint), piece: &[u8], start: usize, last: bool) -> Shown {
-    let mut at = 0;
-    let mut left = piece.len();
-    while left > 0 {
-        match print_at(rt, piece, at, start, last) {
-            Printed::Line => {}
-            Printed::Nothing => {
-                return Shown { at, on: !last };
+    // Reads once behind the bytes, and gives how many more there are.
+    fn read<R: Read>(&mut self, reader: &mut R) -> io::Result<usize> {
+        let more = reader.read(&mut self.buffer[self.count..])?;
+        self.count += more;
+        Ok(more)
+    }
+
+    // Prints what stands at a place of the piece. Gives false where nothing does, or a record that is cut where more may follow;
+    // `last` says that no piece follows.
+    fn print_at(&self, rt: &impl Print, at: usize, last: bool) -> io::Result<bool> {
+        let mut line = [0u8; LINE];
+        let bytes = &self.buffer[..self.count];
+        let place = self.place.wrapping_add(at);
+        let length = texts::put_at(&mut line, 0, bytes, at, place, last);
+        if length == 0 {
+            return Ok(false);
+        }
+        rt.write_all(&line[..length])?;
+        Ok(true)
+    }
+
+    // Prints the records, and after them a refusal. Gives the place up to where they are printed, or nothing where no more is read.
+    #[tactic(auto, using(crate::proofs::Places::place_inside))]
+    fn print(&self, rt: &impl Print, last: bool) -> io::Result<Option<usize>>
+        ensures { IfOk result (λ printed. IfSome printed (λ at. at ≤ self.now.count)) }
+    {
+        let mut at = 0;
+        // A record has a byte at least, so there are not more of them than bytes.
+        for _ in 0..self.count {
+            if !self.print_at(rt, at, last)? {
+                break;
             }
-            Printed::Failed => {
-                return Shown { at, on: false };
+            let next = walk::place_after(&self.buffer[..self.count], at);
+            if next == at {
+                return Ok(None);
             }
+            at = next;
         }
-        let next = walk::place_after(piece, at);
-        if next == at {
-            return Shown { at, on: false };
-        }
-        at = next;
-        left -= 1;
+        Ok((!last).then_some(at))
     }
-    Shown { at, on: !last }
-}
 
-// Moves the bytes from a place up to an end to the front, and gives their count.
-fn keep(buffer: &mut [u8], from: usize, end: usize) -> usize {
-    let mut count = 0;
-    let mut i = from;
-    while i < end {
-        if buffer.len() <= i {
-            return count;
-        }
-        buffer[count] = buffer[i];
-        count += 1;
-        i += 1;
+    // Keeps the bytes from a place on.
+    fn keep(&mut self, from: usize)
+        requires { from ≤ self.old.count }
+    {
+        self.buffer.copy_within(from..self.count, 0);
+        self.count -= from;
+        self.place = self.place.wrapping_add(from);
     }
-    count
-}
 
-// Reads once behind what is kept, prints, and keeps what is cut.
-fn show_more<R: Read>(
-    rt: &(impl Print + Eprint),
-    reader: &mut R,
-    buffer: &mut [u8],
-    kept: Kept,
-) -> Kept {
-    let count = kept.count;
-    let stop = Kept {
-        count: 0,
-        place: 0,
-        on: false,
-    };
-    if buffer.len() < count {
-        return stop;
-    }
-    let more = match reader.read(&mut buffer[count..]) {
-        Ok(more) => more,
-        Err(e) => {
-            let _ = eprintln!(rt; "standard input: {}", Reason(e));
-            return stop;
-        }
-    };
-    let end = count + more;
-    let start = kept.place;
-    let shown = show(rt, &buffer[..end], start, more == 0);
-    Kept {
-        count: keep(buffer, shown.at, end),
-        place: start.wrapping_add(shown.at),
-        on: shown.on,
+    // Reads once more, prints, and keeps what is cut. Says whether to go on.
+    fn show_more<R: Read>(&mut self, rt: &impl Print, reader: &mut R) -> Result<bool, Failure> {
+        let more = self.read(reader).map_err(Failure::Input)?;
+        let Some(at) = self.print(rt, more == 0).map_err(Failure::Output)? else {
+            return Ok(false);
+        };
+        self.keep(at);
+        Ok(true)
     }
 }
 
 // A proved loop has to end, and nothing says that an input does: the turns are counted, up to a number that no run reaches.
-fn main(rt: HostRuntime) {
-    let mut buffer = [0u8; BUFFER];
-    let mut kept = Kept {
-        count: 0,
-        place: 0,
-        on: true,
-    };
+fn show<R: Read>(rt: &impl Print, reader: &mut R) -> Result<(), Failure> {
+    let mut piece = Piece::empty();
     for _ in 0..u64::MAX {
-        kept = show_more(&rt, &mut rt.stdin(), &mut buffer, kept);
-        if !kept.on {
+        if !piece.show_more(rt, reader)? {
             break;
         }
+    }
+    Ok(())
+}
+
+fn main(rt: HostRuntime) {
+    if let Err(failure) = show(&rt, &mut rt.stdin()) {
+        let _ = eprintln!(rt; "{failure}");
     }
 }
