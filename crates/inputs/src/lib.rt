@@ -17,7 +17,8 @@ pub struct Input {
     pub whole: io::Result<()>,
 }
 
-// Reads until the buffer is full or the input ends.
+// Reads until the buffer is full or the input ends. The loop stays, for the clause `bytes`: of an input that ends or fails early
+// `read_exact` does not say what was read, and `read_to_end` needs a heap.
 pub fn fill<R: Read>(reader: &mut R, buffer: &mut [u8]) -> Input
     ensures within { result.count ≤ length buffer.new }
     ensures bytes { Consumes (R.remaining reader.old) (R.remaining reader.new) (take result.count buffer.new) }
@@ -26,12 +27,7 @@ pub fn fill<R: Read>(reader: &mut R, buffer: &mut [u8]) -> Input
     let mut count = 0;
     while count < buffer.len() {
         match reader.read(&mut buffer[count..]) {
-            Ok(0) => {
-                return Input {
-                    count,
-                    whole: Ok(()),
-                };
-            }
+            Ok(0) => break,
             Ok(more) => count += more,
             Err(e) => {
                 return Input {

@@ -27,8 +27,5 @@ impl Display for Reason {
 fn without_number(text: &str) -> &str
     ensures { StartsWith text.now result.now }
 {
-    match text.rsplit_once(NUMBER) {
-        Some((words, _)) => words,
-        None => text,
-    }
+    text.rsplit_once(NUMBER).map_or(text, |(words, _)| words)
 }
