@@ -17,9 +17,8 @@ use Rattle.table.specs.Growing.{Growing}
 use Rattle.table.specs.Starting.{start_table}
 use Rattle.pairs.specs.Listing.{read_pairs}
 use Rattle.writer.specs.Compiling.{Dynamic, dynamic_of, counts_of, compiled}
-use Rattle.writer.specs.declared.compiling.Counts.{Counts}
 use Rattle.writer.proofs.Compiles.{circuit_refused, pair_refused, compiled_as, compiled_qubits}
-use Rattle.compile.specs.Running.{wires_told}
+use Rattle.compile.specs.Running.{wires_told, bytes_told}
 
 -- a circuit that was read, as the laws of the compiler take it
 abbrev pub valid : (s : List ℕ) (c : Static) → read_circuit s ≡ done c → Accepted s (circuit_of c.width (length c.steps))
@@ -67,11 +66,10 @@ module _ (s list : List ℕ) (room : ℕ) where
       go (done d) e = let w = written_fits d e in omega (arith, w.wires, (read_valid s w.is).narrow)
       go (refused n p) e = omega arith
 
-  pub bytes_fit : (counts : Counts) → done counts ≡ counts_of (compiled s list room) → counts.bytes ≤ room
-  bytes_fit counts = go (compiled s list room) refl
+  -- and so are the bytes
+  pub bytes_fit : bytes_told (counts_of (compiled s list room)) ≤ room
+  bytes_fit = go (compiled s list room) refl
     where
-      go : (o : Outcome Dynamic) → compiled s list room ≡ o → done counts ≡ counts_of o → counts.bytes ≤ room
-      go (done d) e z =
-          let same : counts ≡ record { bytes = length d.bytes; qubits = d.qubits; pairs = d.pairs } = cc in
-          omega (arith, ap (λ (x : Counts). x.bytes) same, (written_fits d e).bytes)
-      go (refused n p) e z = absurd (not_refused (sym z))
+      go : (o : Outcome Dynamic) → compiled s list room ≡ o → bytes_told (counts_of o) ≤ room
+      go (done d) e = (written_fits d e).bytes
+      go (refused n p) e = omega arith

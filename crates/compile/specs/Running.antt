@@ -18,6 +18,11 @@ abbrev pub wires_told : Outcome Counts → ℕ
 wires_told (done counts) = counts.qubits + counts.pairs
 wires_told (refused number place) = 0
 
+-- how many bytes were written
+abbrev pub bytes_told : Outcome Counts → ℕ
+bytes_told (done counts) = counts.bytes
+bytes_told (refused number place) = 0
+
 -- the line that is printed
 abbrev pub answer_line : Outcome Counts → List ℕ
 answer_line (done counts) = compiled_line (counts.qubits + counts.pairs) counts.qubits counts.pairs counts.bytes

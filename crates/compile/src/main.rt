@@ -8,10 +8,10 @@ ghost use Rattle.table.specs.Starting.{started};
 ghost use Rattle.pairs.specs.Listing.{deciding_list_bytes};
 ghost use Rattle.writer.specs.Compiling.{compiled, compiling_of, Compiled};
 ghost use Rattle.texts.specs.Listings.{longest_counts};
-ghost use Rattle.compile.specs.Running.{chosen_list, wires_told, answer_line};
+ghost use Rattle.compile.specs.Running.{chosen_list, wires_told, bytes_told, answer_line};
 
 use circuits::Circuit;
-use inputs::{Input, Reason};
+use inputs::Reason;
 use std::env::{Env, FillError};
 use std::rt::Files;
 use std::{fs, io, str};
@@ -30,96 +30,75 @@ const PATH: usize = 4096;
 // The system's number for a path that is longer.
 const TOO_LONG: i32 = 36;
 
+// What failed was told on standard error.
+#[derive(Clone, Copy)]
+struct Told;
+
+// Says of a file, a pipe or an argument why it failed.
+fn tell(rt: &impl Eprint, name: &str, e: io::Error) -> Told {
+    let _ = eprintln!(rt; "{name}: {}", Reason(e));
+    Told
+}
+
 // Whether there is such an argument.
 fn is_given(rt: &impl Env, argument: usize) -> bool {
     !matches!(rt.arg(argument, &mut [0u8; 0]), Err(FillError::NotPresent))
+}
+
+// Why an argument is no path.
+fn error_of(e: FillError) -> io::Error {
+    match e {
+        FillError::TooLong => io::Error::from_raw_os_error(TOO_LONG),
+        FillError::NotPresent => io::Error::from(io::ErrorKind::InvalidInput),
+    }
 }
 
 // The path that an argument is, in a lent buffer, or why there is none: paths are text here.
 fn path_of<'a>(rt: &impl Env, argument: usize, path: &'a mut [u8]) -> io::Result<&'a str>
     ensures { IfOk result (λ name. length name.now ≤ length path.old) }
 {
-    match rt.arg(argument, path) {
-        Ok(count) => match str::from_utf8(&path[..count]) {
-            Ok(name) => Ok(name),
-            Err(_) => Err(io::Error::from(io::ErrorKind::InvalidFilename)),
-        },
-        Err(FillError::TooLong) => Err(io::Error::from_raw_os_error(TOO_LONG)),
-        Err(FillError::NotPresent) => Err(io::Error::from(io::ErrorKind::InvalidInput)),
-    }
+    let count = rt.arg(argument, path).map_err(error_of)?;
+    str::from_utf8(&path[..count]).map_err(|_| io::Error::from(io::ErrorKind::InvalidFilename))
 }
 
-// Reads the file that an argument names until the buffer is full or the file ends, or says why it cannot.
-fn read_file(rt: &(impl Env + Files + Eprint), argument: usize, buffer: &mut [u8]) -> Input
-    ensures { result.count ≤ length buffer.new }
+// Reads the file that an argument names until the buffer is full or the file ends, and gives how many bytes there are.
+fn read_file(
+    rt: &(impl Env + Files + Eprint),
+    argument: usize,
+    buffer: &mut [u8],
+) -> Result<usize, Told>
+    ensures { IfOk result (λ count. count ≤ length buffer.new) }
 {
     let mut path = [0u8; PATH];
-    match path_of(rt, argument, &mut path) {
-        Ok(name) => read_named(rt, name, buffer),
-        Err(e) => {
-            let _ = eprintln!(rt; "argument: {}", Reason(e));
-            Input {
-                count: 0,
-                whole: Err(e),
-            }
-        }
-    }
+    let name = path_of(rt, argument, &mut path).map_err(|e| tell(rt, "argument", e))?;
+    let mut file = fs::open(rt, name).map_err(|e| tell(rt, name, e))?;
+    let input = inputs::fill(&mut file, buffer);
+    input.whole.map_err(|e| tell(rt, name, e))?;
+    Ok(input.count)
 }
 
-// The same of the file at a path.
-fn read_named(rt: &(impl Files + Eprint), name: &str, buffer: &mut [u8]) -> Input
-    ensures { result.count ≤ length buffer.new }
-{
-    let input = match fs::open(rt, name) {
-        Ok(mut file) => inputs::fill(&mut file, buffer),
-        Err(e) => Input {
-            count: 0,
-            whole: Err(e),
-        },
-    };
-    if let Err(e) = input.whole {
-        let _ = eprintln!(rt; "{name}: {}", Reason(e));
-    }
-    input
-}
-
-// Reads as many bytes of the circuit as decide, or more: none behind them changes what is compiled.
-fn read_circuit(rt: &(impl Env + Files + Eprint), buffer: &mut [u8]) -> Input
+// Reads as many bytes of the circuit as decide, or more: none behind them changes what is compiled. This and `read_list` are two for
+// their `requires`, which say how many that is.
+fn read_circuit(rt: &(impl Env + Files + Eprint), buffer: &mut [u8]) -> Result<usize, Told>
     requires { deciding_bytes ≤ length buffer.old }
-    ensures { result.count ≤ length buffer.new }
+    ensures { IfOk result (λ count. count ≤ length buffer.new) }
 {
     read_file(rt, CIRCUIT, buffer)
 }
 
 // The same of the pair list.
-fn read_list(rt: &(impl Env + Files + Eprint), buffer: &mut [u8]) -> Input
+fn read_list(rt: &(impl Env + Files + Eprint), buffer: &mut [u8]) -> Result<usize, Told>
     requires { deciding_list_bytes ≤ length buffer.old }
-    ensures { result.count ≤ length buffer.new }
+    ensures { IfOk result (λ count. count ≤ length buffer.new) }
 {
     read_file(rt, PAIRS, buffer)
 }
 
-// Writes bytes to the file that an argument names, or says why it cannot.
-fn write_file(rt: &(impl Env + Files + Eprint), argument: usize, bytes: &[u8]) -> bool {
+// Writes bytes to the file that an argument names.
+fn write_file(rt: &(impl Env + Files + Eprint), argument: usize, bytes: &[u8]) -> Result<(), Told> {
     let mut path = [0u8; PATH];
-    match path_of(rt, argument, &mut path) {
-        Ok(name) => write_named(rt, name, bytes),
-        Err(e) => {
-            let _ = eprintln!(rt; "argument: {}", Reason(e));
-            false
-        }
-    }
-}
-
-// The same to the file at a path.
-fn write_named(rt: &(impl Files + Eprint), name: &str, bytes: &[u8]) -> bool {
-    match fs::write(rt, name, bytes) {
-        Ok(()) => true,
-        Err(e) => {
-            let _ = eprintln!(rt; "{name}: {}", Reason(e));
-            false
-        }
-    }
+    let name = path_of(rt, argument, &mut path).map_err(|e| tell(rt, "argument", e))?;
+    fs::write(rt, name, bytes).map_err(|e| tell(rt, name, e))
 }
 
 // The records of the pairs that are chosen greedily from a circuit's table, at the front of a buffer that has room for any list.
@@ -149,64 +128,66 @@ fn line_of(line: &mut [u8], answer: Compiling) -> usize
 }
 
 // Prints the line of an answer.
-fn print_answer(rt: &(impl Print + Eprint), answer: Compiling)
+fn print_answer(rt: &(impl Print + Eprint), answer: Compiling) -> Result<(), Told>
     requires { wires_told (compiling_of answer) ≤ most_wires }
 {
     let mut line = [0u8; texts::LONGEST_COUNTS];
     let length = line_of(&mut line, answer);
-    if let Err(e) = rt.write_all(&line[..length]) {
-        let _ = eprintln!(rt; "standard output: {}", Reason(e));
-    }
+    rt.write_all(&line[..length])
+        .map_err(|e| tell(rt, "standard output", e))
 }
 
 // Compiles into a buffer that has room for any output: more room would change nothing.
 fn compile_into(circuit: &[u8], list: &[u8], out: &mut [u8]) -> Compiling
     requires { deciding_bytes ≤ length out.old }
-    ensures { Compiled out.old (compiled circuit.now list.now deciding_bytes) (compiling_of result) out.new }
+    ensures compiled { Compiled out.old (compiled circuit.now list.now deciding_bytes) (compiling_of result) out.new }
+    ensures few { wires_told (compiling_of result) ≤ most_wires }
+    ensures fits { bytes_told (compiling_of result) ≤ length out.new }
 {
     writer::compile(circuit, list, out)
 }
 
-// Compiles a circuit with a pair list, and writes the output file where they are accepted.
-fn compile(rt: &(impl Env + Files + Print + Eprint), circuit: &[u8], list: &[u8]) {
-    let mut out = [0u8; Circuit::DECIDING];
-    let answer = compile_into(circuit, list, &mut out);
+// Writes the output file where the circuit and the pairs are accepted.
+fn write_output(rt: &(impl Env + Files + Eprint), answer: Compiling, out: &[u8]) -> Result<(), Told>
+    requires { bytes_told (compiling_of answer) ≤ length out.now }
+{
     match answer {
-        Compiling::Done(counts) => {
-            let bytes = counts.bytes;
-            if write_file(rt, OUTPUT, &out[..bytes]) {
-                print_answer(rt, answer);
-            }
-        }
-        Compiling::Refused(_) => print_answer(rt, answer),
+        Compiling::Done(counts) => write_file(rt, OUTPUT, &out[..counts.bytes]),
+        Compiling::Refused(_) => Ok(()),
     }
 }
 
+// Compiles a circuit with a pair list, and says what came of it once it is written.
+fn compile(
+    rt: &(impl Env + Files + Print + Eprint),
+    circuit: &[u8],
+    list: &[u8],
+) -> Result<(), Told> {
+    let mut out = [0u8; Circuit::DECIDING];
+    let answer = compile_into(circuit, list, &mut out);
+    write_output(rt, answer, &out)?;
+    print_answer(rt, answer)
+}
+
 // Reads the files that are given, and compiles.
-fn run(rt: &(impl Env + Files + Print + Eprint), listed: bool) {
-    let mut circuit = [0u8; Circuit::DECIDING];
-    let input = read_circuit(rt, &mut circuit);
-    let length = input.count;
-    if input.whole.is_err() {
-        return;
-    }
+fn run(rt: &(impl Env + Files + Print + Eprint)) -> Result<(), Told> {
+    let mut buffer = [0u8; Circuit::DECIDING];
+    let length = read_circuit(rt, &mut buffer)?;
+    let circuit = &buffer[..length];
     let mut list = [0u8; lists::DECIDING];
-    if !listed {
-        let chosen = choose_list(&circuit[..length], &mut list);
-        compile(rt, &circuit[..length], &list[..chosen]);
-        return;
-    }
-    let pairs = read_list(rt, &mut list);
-    let read = pairs.count;
-    if pairs.whole.is_ok() {
-        compile(rt, &circuit[..length], &list[..read]);
-    }
+    let count = if is_given(rt, PAIRS) {
+        read_list(rt, &mut list)?
+    } else {
+        choose_list(circuit, &mut list)
+    };
+    compile(rt, circuit, &list[..count])
 }
 
 fn main(rt: HostRuntime) {
     if is_given(&rt, OUTPUT) && !is_given(&rt, PAIRS + 1) {
-        run(&rt, is_given(&rt, PAIRS));
-        return;
+        // What failed was told.
+        let _ = run(&rt);
+    } else {
+        let _ = eprintln!(rt; "usage: compile CIRCUIT OUTPUT [PAIRS]");
     }
-    let _ = eprintln!(rt; "usage: compile CIRCUIT OUTPUT [PAIRS]");
 }
