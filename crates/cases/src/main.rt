@@ -3,41 +3,25 @@
 
 ghost use Rattle.std.specs.Prelude.{◌≤◌, length};
 
-use circuits::{Reading, Rewriting, read, rewrite};
-use records::Refusal;
-use std::fmt;
-use std::fmt::{Display, Formatter, Write};
+use circuits::{read, rewrite};
 use writing::put_bytes;
 
 // Room for the most instructions on one wire, and one more.
 const ROOM: usize = 4200;
 
-// A refusal in the words of a line.
-#[derive(Clone, Copy)]
-struct Refused(Refusal);
-
-impl Display for Refused {
-    fn fmt<W: Write>(&self, f: &mut Formatter<W>) -> fmt::Result {
-        write!(f, "refused {} at {}", self.0.number, self.0.place)
-    }
-}
-
 // A name, and what the reader answers. What cannot be written is missed where the output is compared.
 fn show_reading(rt: &impl Print, name: &str, circuit: &[u8]) {
     let _ = match read(circuit) {
-        Reading::Valid(c) => println!(rt;
-            "{name}: wires {} instructions {}",
-            c.width, c.instructions
-        ),
-        Reading::Refused(r) => println!(rt; "{name}: {}", Refused(r)),
+        Ok(c) => println!(rt; "{name}: wires {} instructions {}", c.width, c.instructions),
+        Err(r) => println!(rt; "{name}: {r}"),
     };
 }
 
 // A name, and what is answered where the circuit is to be written again into this room.
 fn show_rewriting(rt: &impl Print, name: &str, circuit: &[u8], out: &mut [u8]) {
     let _ = match rewrite(circuit, out) {
-        Rewriting::Done(n) => println!(rt; "{name}: bytes {n}"),
-        Rewriting::Refused(r) => println!(rt; "{name}: {}", Refused(r)),
+        Ok(n) => println!(rt; "{name}: bytes {n}"),
+        Err(r) => println!(rt; "{name}: {r}"),
     };
 }
 

@@ -1,4 +1,4 @@
--- What greedy settles, by the table's width; and two results that its contract allows are equal. Assumes nothing.
+-- What greedy settles, by the table's width. Assumes nothing.
 use Prim.Native.Nat.{ℕ}
 use mathlib.Core.Path.{◌≡◌, refl, sym, ap, ◌∙◌}
 use mathlib.Core.Bool.{Bool, true, false}
@@ -7,11 +7,7 @@ use Rattle.basics.proofs.Outcomes.{not_refused}
 use Rattle.table.specs.Calls.{wrong_width, count_of}
 use Rattle.table.specs.declared.tables.Table.{Table}
 use Rattle.choosers.specs.Greedy.{ended, greedy_from}
-use Rattle.choosers.specs.Results.{handed_back, greedy_of, chosen, settled}
-use Rattle.choosers.specs.declared.answers.Rounds.{Rounds}
-use Rattle.choosers.specs.declared.answers.Choice.{Choice}
-use Rattle.choosers.specs.declared.answers.Choice.TheVariants as choice
-use Rattle.choosers.specs.declared.answers.Chosen.{Chosen}
+use Rattle.choosers.specs.Results.{handed_back, greedy_of}
 
 module _ (t : Table) where
   pub greedy_made : wrong_width t ≡ false → greedy_of t ≡ done (handed_back (greedy_from t))
@@ -38,22 +34,3 @@ module _ (t : Table) where
       go : (b : Bool) → wrong_width t ≡ b → greedy_of t ≡ refused number place
       go true w = rw w (ap (handing (handed_back (ended t))) (rw w at e))
       go false w = absurd (not_refused (sym (rw w at e)))
-
--- the answers say the same, so they are the same
-choice_one : (a b : Choice) (r s : Rounds) → handing r (chosen a) ≡ handing s (chosen b) → a ≡ b
-choice_one choice.Made choice.Made r s e = refl
-choice_one choice.Made (choice.Refused y) r s e = absurd (not_refused (sym e))
-choice_one (choice.Refused x) choice.Made r s e = absurd (not_refused e)
-choice_one (choice.Refused x) (choice.Refused y) r s e =
-    let number : x.number ≡ y.number = cc in
-    let place : x.place ≡ y.place = cc in
-    λ i. choice.Refused (record { number = number i; place = place i })
-
--- THEOREM: two results that greedy's contract allows are equal.
-pub greedy_one : (t : Table) (r s : Chosen)
-    → settled r ≡ greedy_of t → r.rounds ≡ beside (handed_back (ended t)) (greedy_of t)
-    → settled s ≡ greedy_of t → s.rounds ≡ beside (handed_back (ended t)) (greedy_of t) → r ≡ s
-greedy_one t r s a b c d =
-    let answer = choice_one r.choice s.choice r.rounds s.rounds (a ∙ sym c) in
-    let values = b ∙ sym d in
-    λ i. record { choice = answer i; rounds = values i }

@@ -1,8 +1,10 @@
--- What a chooser settles, and what the code's answers say of it.
+-- What a chooser settles, and what its code keeps.
 use Rattle.std.specs.Prelude.{ℕ, ◌+◌, ◌-◌, ◌^◌, ◌≤◌, not, ◌&&◌, List, ◌++◌, map, eqb, length, take, set, replicate, get_or}
+use Rattle.std.specs.Prelude as code
+use Rattle.std.specs.Prelude.{None, Some}
 use Rattle.std.proofs.Math.Option.{Option, none, some}
 use Rattle.basics.specs.Choice.{pick}
-use Rattle.basics.specs.Outcome.{Outcome, done, refused, handing}
+use Rattle.basics.specs.Outcome.{Outcome, done, refused}
 use Rattle.bits.specs.Bits.{bit, pack, total, tally, each}
 use Rattle.orders.specs.Runs as runs
 use Rattle.records.specs.Records.{wire}
@@ -16,12 +18,7 @@ use Rattle.choosers.specs.Greedy.{Choosing, greedy_from}
 use Rattle.choosers.specs.declared.answers.Pair.{Pair}
 use Rattle.choosers.specs.declared.answers.PairList.{PairList}
 use Rattle.choosers.specs.declared.answers.Rounds.{Rounds}
-use Rattle.choosers.specs.declared.answers.Chosen.{Chosen}
-use Rattle.choosers.specs.declared.answers.Choice.{Choice}
-use Rattle.choosers.specs.declared.answers.Choice.TheVariants as choice
 use Rattle.choosers.specs.declared.choosing.Tried.{Tried}
-use Rattle.choosers.specs.declared.choosing.Best.{Best}
-use Rattle.choosers.specs.declared.choosing.Best.TheVariants as best
 
 -- the most pairs of a list: each has a lender of its own
 abbrev pub most_pairs : ℕ
@@ -59,15 +56,6 @@ handed_back c = record { list = list_of c.pairs; table = c.table; trials = c.tri
 unfoldable pub greedy_of : Table → Outcome Rounds
 greedy_of t = pick (wrong_width t) (refused 27 0) (done (handed_back (greedy_from t)))
 
--- what the code answers: made, or refused
-abbrev pub chosen : Choice → Outcome (Unit {0})
-chosen choice.Made = done tt
-chosen (choice.Refused r) = refused r.number r.place
-
--- made, with the values handed back, or refused
-abbrev pub settled : Chosen → Outcome Rounds
-settled r = handing r.rounds (chosen r.choice)
-
 -- ---- one round of the code
 
 -- a count of trials that the code holds is below this
@@ -78,9 +66,9 @@ abbrev pub tried_of : Tried → trying.Tried
 tried_of b = record { pair = (b.pair.lender.0, b.pair.taker.0); score = b.score }
 
 -- the best pair so far, or none
-abbrev pub best_said : Best → Option trying.Tried
-best_said best.Nothing = none
-best_said (best.Found b) = some (tried_of b)
+abbrev pub best_said : code.Option Tried → Option trying.Tried
+best_said None = none
+best_said (Some b) = some (tried_of b)
 
 -- the marks that count in the rows of the other lenders
 abbrev pub other_rows : Table → ℕ → List ℕ

@@ -2,7 +2,7 @@
 ghost use Rattle.std.specs.Prelude.{◌≡◌, []};
 ghost use Rattle.choosers.specs.Results.{list_of};
 
-use records::{Refusal, Wire};
+use records::Wire;
 use table::Table;
 
 #[derive(Clone, Copy)]
@@ -35,23 +35,10 @@ impl PairList {
     }
 }
 
-// What the rounds leave: the list, the table as the accepted offers leave it, and the number of trials.
+// What the rounds of a choice leave: the list, the table as the accepted offers leave it, and the number of trials.
 #[derive(Clone, Copy)]
 pub struct Rounds {
     pub list: PairList,
     pub table: Table,
     pub trials: u32,
-}
-
-#[derive(Clone, Copy)]
-pub enum Choice {
-    Made,
-    Refused(Refusal),
-}
-
-// The choice, and what the rounds left; beside a refusal the table given, with no pair and no trial.
-#[derive(Clone, Copy)]
-pub struct Chosen {
-    pub choice: Choice,
-    pub rounds: Rounds,
 }

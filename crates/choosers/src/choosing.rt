@@ -1,17 +1,18 @@
 // The greedy choice: in each round every yes pair is tried, and the one with the highest score is accepted.
 ghost use Rattle.std.specs.Prelude.{◌≡◌, false, ◌+◌, ◌<◌, ◌≤◌, length};
 ghost use Rattle.basics.specs.Outcome.{beside};
+ghost use Rattle.records.specs.Refusals.{outcome_of};
 ghost use Rattle.bits.specs.Bits.{pack};
 ghost use Rattle.table.specs.Limits.{most_wires};
 ghost use Rattle.table.specs.Marks.{counts};
 ghost use Rattle.table.specs.Calls.{wrong_width, count_of};
 ghost use Rattle.choosers.specs.Trying.{better, try_takers, try_lenders, score_in, best_pair};
-ghost use Rattle.choosers.specs.Greedy.{greedy_from, ended};
-ghost use Rattle.choosers.specs.Results.{most_pairs, trials_limit, best_said, tried_of, other_rows, marks_left, stored, round_after, handed_back, greedy_of, settled};
+ghost use Rattle.choosers.specs.Greedy.{greedy_from};
+ghost use Rattle.choosers.specs.Results.{most_pairs, trials_limit, best_said, tried_of, other_rows, marks_left, stored, round_after, handed_back, greedy_of};
 
-use crate::answers::{Choice, Chosen, Pair, PairList, Rounds};
-use records::Wire;
-use table::{Counted, Row, Table, all_marks, count, offer, row_left};
+use crate::answers::{Pair, PairList, Rounds};
+use records::{Refusal, Wire};
+use table::{Row, Table, all_marks, count, offer, row_left};
 
 // A pair that was tried, and its score.
 #[derive(Clone, Copy)]
@@ -20,26 +21,13 @@ struct Tried {
     score: u32,
 }
 
-// The best pair tried so far.
-#[derive(Clone, Copy)]
-enum Best {
-    Nothing,
-    Found(Tried),
-}
-
-// The highest score wins, and on a tie the pair that was tried before.
-fn better_of(best: Best, new: Tried) -> Best
+// The best of the pair found so far, if any, and a new one: the highest score wins, and on a tie the pair that was tried before.
+fn better_of(best: Option<Tried>, new: Tried) -> Option<Tried>
     ensures { best_said result ≡ better (best_said best) (tried_of new) }
 {
     match best {
-        Best::Nothing => Best::Found(new),
-        Best::Found(old) => {
-            if old.score < new.score {
-                Best::Found(new)
-            } else {
-                Best::Found(old)
-            }
-        }
+        Some(old) if new.score <= old.score => Some(old),
+        _ => Some(new),
     }
 }
 
@@ -63,7 +51,13 @@ fn marks_left(rows: &[Row; Table::ROWS], width: u8, given: Row, taker: Wire) -> 
 // Tries the takers of one lender, rising. Its own marks are given, and its row is empty. Most lenders have no marks left in the later
 // rounds, so that is tested once and not for each taker.
 #[tactic(auto, using(crate::proofs::Scores::tries_none))]
-fn try_takers(table: Table, rows: &[Row; Table::ROWS], given: Row, lender: Wire, best: Best) -> Best
+fn try_takers(
+    table: Table,
+    rows: &[Row; Table::ROWS],
+    given: Row,
+    lender: Wire,
+    best: Option<Tried>,
+) -> Option<Tried>
     requires table_value { wrong_width table ≡ false }
     requires rows_value { rows.now ≡ other_rows table lender.0 }
     requires given_value { given ≡ pack most_wires (counts table lender.0) }
@@ -89,12 +83,12 @@ fn try_takers(table: Table, rows: &[Row; Table::ROWS], given: Row, lender: Wire,
 }
 
 // Tries every pair, by rising lender, then rising taker.
-fn try_pairs(table: Table) -> Best
+fn try_pairs(table: Table) -> Option<Tried>
     requires { wrong_width table ≡ false }
     ensures { best_said result ≡ try_lenders (counts table) (score_in table) table.width table.width }
 {
     let mut rows = all_marks(table);
-    let mut best = Best::Nothing;
+    let mut best = None;
     let mut lender: u8 = 0;
     while lender < table.width {
         let at = lender as usize;
@@ -125,7 +119,7 @@ fn with_pair(list: PairList, pair: Pair) -> PairList
 fn yes_marks(table: Table) -> u32
     ensures { result ≡ beside 0 (count_of table) }
 {
-    count(table).number()
+    count(table).unwrap_or(0)
 }
 
 // One round: the best pair is accepted.
@@ -136,19 +130,14 @@ fn round(rounds: Rounds, marks: u32) -> Rounds
     ensures { result ≡ round_after rounds marks (best_pair rounds.table) }
 {
     let table = rounds.table;
-    let best = try_pairs(table);
-    match best {
-        Best::Nothing => rounds,
-        Best::Found(tried) => {
-            let offered = offer(table, tried.pair.lender, tried.pair.taker);
-            let list = with_pair(rounds.list, tried.pair);
-            let after = offered.table;
-            Rounds {
-                list,
-                table: after,
-                trials: rounds.trials + marks,
-            }
-        }
+    let Some(tried) = try_pairs(table) else {
+        return rounds;
+    };
+    Rounds {
+        list: with_pair(rounds.list, tried.pair),
+        // A yes is taken.
+        table: offer(table, tried.pair.lender, tried.pair.taker).unwrap(),
+        trials: rounds.trials + marks,
     }
 }
 
@@ -170,23 +159,11 @@ fn all_rounds(table: Table) -> Rounds
     rounds
 }
 
-// Chooses pairs greedily from a table: the list, the table as the accepted offers leave it, and the number of trials.
-pub fn greedy(table: Table) -> Chosen
-    ensures { (settled result ≡ greedy_of table) × (result.rounds ≡ beside (handed_back (ended table)) (greedy_of table)) }
+// Chooses pairs greedily from a table: the list, the table as the accepted offers leave it, and the number of trials; or 27.
+pub fn greedy(table: Table) -> Result<Rounds, Refusal>
+    ensures { outcome_of result ≡ greedy_of table }
 {
-    let counted = count(table);
-    match counted {
-        Counted::Marks(_) => Chosen {
-            choice: Choice::Made,
-            rounds: all_rounds(table),
-        },
-        Counted::Refused(refusal) => Chosen {
-            choice: Choice::Refused(refusal),
-            rounds: Rounds {
-                list: PairList::empty(),
-                table,
-                trials: 0,
-            },
-        },
-    }
+    // The count is refused exactly where the choice is.
+    count(table)?;
+    Ok(all_rounds(table))
 }

@@ -4,5 +4,5 @@
 pub mod answers;
 mod choosing;
 
-pub use answers::{Choice, Chosen, Pair, PairList, Rounds};
+pub use answers::{Pair, PairList, Rounds};
 pub use choosing::greedy;

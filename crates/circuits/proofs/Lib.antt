@@ -1,8 +1,10 @@
 pub mod Turns
 pub mod Steps
+pub mod Others
 pub mod Sketches
 pub mod Takes
 pub mod Walks
+pub mod Going
 pub mod Validity
 pub mod Rewrites
 pub mod FirstBytes

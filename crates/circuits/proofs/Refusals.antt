@@ -5,7 +5,8 @@ use mathlib.Core.Bool.{Bool, true, false}
 use mathlib.Core.Path.{◌≡◌, refl, sym, ap, subst, ◌∙◌}
 use mathlib.Core.Logic.{◌⊎◌, inl, inr, ◌≢◌}
 use mathlib.Core.List.{List, [], ◌∷◌, ◌++◌, append_assoc}
-use mathlib.Core.Option.{Option, none, some}
+use mathlib.Core.Option.{some}
+use Rattle.std.specs.Prelude.{Option, None, Some}
 use native.Mathlib.Omega.{arith}
 use native.Mathlib.Nat.{suc-mul, mul-le-mul_right}
 use lib.ListN.{length, get_or, drop, get_elem?, length-append, length-set, drop_of_length-le, get_or-replicate}
@@ -13,7 +14,8 @@ use lib.Dec.{leb, ltb, eqb}
 use borrow.Author.Tests.{ltb-true}
 use Rattle.basics.specs.Choice.{pick}
 use Rattle.basics.specs.Outcome.{Outcome, done, refused}
-use Rattle.records.specs.Kinds.{Shape, shape_of}
+use Rattle.records.specs.Kinds.{shape_of}
+use Rattle.records.specs.declared.kinds.Outline.{Outline}
 use Rattle.records.specs.Bytes.{longest_record, instruction_bytes}
 use Rattle.records.specs.Records.{Standing, stands, over, record_at, bodied}
 use Rattle.records.specs.declared.numbers.Line.{Line}
@@ -111,9 +113,9 @@ module _ (s : List ℕ) (at : ℕ) where
   unfolding record_at
   record_refuses = chosen Here (leb (length s) at) _ _ tt (known (shape_of (get_or s at 0)))
     where
-      known : (o : Option Shape) → Refuses Here (bodied s at o)
-      known none = four
-      known (some h) = chosen Here (leb (length s - at) h.body) _ _ (inl refl, refl) tt
+      known : (o : Option Outline) → Refuses Here (bodied s at o)
+      known None = four
+      known (Some h) = chosen Here (leb (length s - at) h.body) _ _ (inl refl, refl) tt
 
   step_refuses : (left : ℕ) → Refuses Here (step_at s at left)
   unfolding step_at instruction_at
@@ -168,11 +170,11 @@ header_refuses s =
     answer (done over) h = one
     answer (refused n p) h = h
 
-    known : (o : Option Shape) → Refuses OfHeader (pick (shape_static o) (headed (pick (leb (length s) 0) (done over) (bodied s 0 o))) (refused 1 0))
-    known none = one
-    known (some h) =
+    known : (o : Option Outline) → Refuses OfHeader (pick (shape_static o) (headed (pick (leb (length s) 0) (done over) (bodied s 0 o))) (refused 1 0))
+    known None = one
+    known (Some h) =
         chosen OfHeader (static_form h.form) _ _
-        (answer (pick (leb (length s) 0) (done over) (bodied s 0 (some h))) (chosen OfHeader (leb (length s) 0) _ _ tt (chosen OfHeader (leb (length s - 0) h.body) _ _ two tt)))
+        (answer (pick (leb (length s) 0) (done over) (bodied s 0 (Some h))) (chosen OfHeader (leb (length s) 0) _ _ tt (chosen OfHeader (leb (length s - 0) h.body) _ _ two tt)))
         one
 
 -- The reading

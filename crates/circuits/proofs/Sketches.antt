@@ -3,13 +3,14 @@
 use Prim.Native.Nat.{ℕ, ◌≤◌, ◌/◌}
 use mathlib.Core.Bool.{Bool, true, false}
 use mathlib.Core.Path.{◌≡◌, refl, sym, ap, subst}
-use mathlib.Core.Option.{Option, none, some}
+use Rattle.std.specs.Prelude.{Option, None, Some}
 use native.Mathlib.Omega.{arith}
 use lib.Dec.{eqb, lit≤}
 use Rattle.basics.specs.Choice.{pick}
 use Rattle.basics.specs.Outcome.{Outcome, done, refused}
 use Rattle.basics.proofs.Outcomes.{not_refused}
-use Rattle.records.specs.Kinds.{Shape, shape_of}
+use Rattle.records.specs.Kinds.{shape_of}
+use Rattle.records.specs.declared.kinds.Outline.{Outline}
 use Rattle.records.specs.declared.kinds.Form.{Form}
 use Rattle.records.specs.declared.kinds.Form.TheVariants as form
 use Rattle.records.specs.declared.instructions.Instruction.{Instruction}
@@ -32,15 +33,15 @@ some_operand form.TwoLineGate = lit≤ tt
 some_operand form.AngledTwoLineGate = lit≤ tt
 some_operand form.Reuse = lit≤ tt
 
-abbrev Within : Option Shape → Type 0
-Within none = Unit {0}
-Within (some h) = operands_of h.form ≤ h.body
+abbrev Within : Option Outline → Type 0
+Within None = Unit {0}
+Within (Some h) = operands_of h.form ≤ h.body
 
-record Holds (o : Option Shape) : Type 0 where
+record Holds (o : Option Outline) : Type 0 where
   is : Within o
 
 -- by the table of kinds a body holds its operands
-pub body_holds : (k : ℕ) {h : Shape} → shape_of k ≡ some h → operands_of h.form ≤ h.body
+pub body_holds : (k : ℕ) {h : Outline} → shape_of k ≡ Some h → operands_of h.form ≤ h.body
 unfolding shape_of
 body_holds k e =
     (subst Holds e
@@ -55,7 +56,7 @@ body_holds k e =
     (either (eqb (k / 16) 5) (record { is = lit≤ tt }) (record { is = tt }))))))))))
     ).is
   where
-    either : (b : Bool) {x y : Option Shape} → Holds x → Holds y → Holds (pick b x y)
+    either : (b : Bool) {x y : Option Outline} → Holds x → Holds y → Holds (pick b x y)
     either true p q = p
     either false p q = q
 

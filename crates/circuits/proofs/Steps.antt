@@ -3,14 +3,15 @@ use Prim.Native.Nat.{ℕ, ◌+◌, ◌-◌, ◌≤◌, ◌<◌}
 use mathlib.Core.Bool.{Bool, true, false}
 use mathlib.Core.Path.{◌≡◌, refl, sym}
 use mathlib.Core.List.{List}
-use mathlib.Core.Option.{Option, none, some}
+use Rattle.std.specs.Prelude.{Option, None, Some}
 use native.Mathlib.Omega.{arith}
 use lib.ListN.{length, get_or}
 use lib.Dec.{leb, eqb}
 use borrow.Author.Tests.{le-leb, lt-leb, ne_eqb, leb-true}
 use Rattle.basics.specs.Choice.{pick}
 use Rattle.basics.specs.Outcome.{Outcome, done, refused}
-use Rattle.records.specs.Kinds.{Shape, shape_of, instruction_form}
+use Rattle.records.specs.Kinds.{shape_of, instruction_form}
+use Rattle.records.specs.declared.kinds.Outline.{Outline}
 use Rattle.records.specs.Records.{Standing, stands, over, record_at, bodied, decode_at}
 use Rattle.records.specs.declared.instructions.Instruction.{Instruction}
 use Rattle.records.specs.declared.instructions.Record.TheVariants.{StaticWidth, DynamicWidth, Step, Reuse}
@@ -85,15 +86,15 @@ module _ (s : List ℕ) (at : ℕ) where
       formed form.TwoLineGate e = refl
       formed form.AngledTwoLineGate e = refl
 
-      cut : (h : Shape) (b : Bool) {i : Instruction} {next : ℕ}
+      cut : (h : Outline) (b : Bool) {i : Instruction} {next : ℕ}
           → pick b (refused 2 at) (done (stands (decode_at h.form s at) (at + 1 + h.body))) ≡ done (stands (Step i) next) → instruction_form h.form ≡ true
       cut h true e = absurd (not_refused e)
       cut h false {i} {next} e = let z : decode_at h.form s at ≡ Step i = cc in formed h.form z
 
-      ended : (b : Bool) (o : Option Shape) {i : Instruction} {next : ℕ} → pick b (done over) (bodied s at o) ≡ done (stands (Step i) next) → shape_allowed o ≡ true
+      ended : (b : Bool) (o : Option Outline) {i : Instruction} {next : ℕ} → pick b (done over) (bodied s at o) ≡ done (stands (Step i) next) → shape_allowed o ≡ true
       ended true o {i} {next} e = let z : ◌≡◌ {A = ℕ} 0 1 = cc in absurd (omega arith)
-      ended false none e = absurd (not_refused e)
-      ended false (some h) e = cut h (leb (length s - at) h.body) e
+      ended false None e = absurd (not_refused e)
+      ended false (Some h) e = cut h (leb (length s - at) h.body) e
 
   pub record_step : (left : ℕ) {i : Instruction} {next : ℕ} → at < length s → 0 < left → record_at s at ≡ done (stands (Step i) next)
       → step_at s at left ≡ done (step i next)

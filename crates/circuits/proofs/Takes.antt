@@ -5,18 +5,16 @@ use mathlib.Core.Path.{◌≡◌, sym, ap, ◌∙◌}
 use mathlib.Core.List.{List}
 use native.Mathlib.Omega.{arith}
 use Rattle.basics.specs.Outcome.{Outcome, done, refused}
-use Rattle.records.specs.declared.answers.Refusal.{Refusal}
+use Rattle.std.specs.Prelude.{Option, None, Some, Result, Ok, Err}
+use Rattle.records.specs.Refusals.{number_of, refusal_of}
+use Rattle.records.specs.declared.refusals.Refusal.{Refusal}
 use Rattle.records.specs.declared.instructions.Instruction.{Instruction}
 use Rattle.circuits.specs.Judging.{verdict_of, place_of, judge_of}
 use Rattle.circuits.specs.Stepping.{step, step_at}
 use Rattle.circuits.specs.Sketching.{Sight, sketch_of, sketched, over, glimpsed, in_sketch, judge_sketch, advance_sketch}
 use Rattle.circuits.specs.Reading.{checked_at, states_after, ending, before, read_from, counted}
 use Rattle.circuits.specs.declared.sketching.Sketch.{Sketch}
-use Rattle.circuits.specs.declared.sketching.Glimpse.{Glimpse}
-use Rattle.circuits.specs.declared.sketching.Glimpse.TheVariants as glimpse
 use Rattle.circuits.specs.declared.judging.Fault.{Fault}
-use Rattle.circuits.specs.declared.judging.Verdict.{Verdict}
-use Rattle.circuits.specs.declared.judging.Verdict.TheVariants as verdict
 use Rattle.circuits.specs.declared.states.States.{States}
 use Rattle.circuits.proofs.Turns.{checked_step, step_checked, passed_left, reads_on, reads_end, reads_refused, counted-before}
 use Rattle.circuits.proofs.Sketches.{judges_sketch, advances_sketch, Drawn, drawn, drawn_end, drawn_refused}
@@ -27,27 +25,27 @@ module _ (s : List ℕ) (at left width : ℕ) (c : States) where
   Told o after = (o ≡ in_sketch (checked_at s at left width c)) × (after ≡ states_after c (checked_at s at left width c))
 
   -- by what was seen, and where it is a sketch by the verdict on it
-  module _ {g : Glimpse} (seen : glimpsed g ≡ in_sketch (step_at s at left)) where
-    pub told_end : g ≡ glimpse.End → Told (done over) c
+  module _ {g : Result (Option (Sketch × ℕ)) Refusal} (seen : glimpsed g ≡ in_sketch (step_at s at left)) where
+    pub told_end : g ≡ Ok None → Told (done over) c
     unfolding checked_at
     told_end e = let z = drawn_end (step_at s at left) (sym seen ∙ ap glimpsed e) in (rw z, rw z)
 
-    pub told_refused : {r : Refusal} → g ≡ glimpse.Refused r → Told (refused r.number r.place) c
+    pub told_refused : {r : Refusal} → g ≡ Err r → Told (refusal_of r) c
     unfolding checked_at
     told_refused e = let z = drawn_refused (step_at s at left) (sym seen ∙ ap glimpsed e) in (rw z, rw z)
 
-    module _ {k : Sketch} {next : ℕ} (e : g ≡ glimpse.Step k next) (v : Verdict) (judged : verdict_of v ≡ judge_sketch width width c k) where
+    module _ {k : Sketch} {next : ℕ} (e : g ≡ Ok (Some (k, next))) (v : Result (Unit {0}) Fault) (judged : verdict_of v ≡ judge_sketch width width c k) where
       d : Drawn (step_at s at left) k next
       d = drawn (step_at s at left) (sym seen ∙ ap glimpsed e)
 
       like : judge_of width width c d.instruction ≡ verdict_of v
       like = judges_sketch width width c d.instruction ∙ ap (judge_sketch width width c) d.like ∙ sym judged
 
-      pub told_fault : {f : Fault} → v ≡ verdict.Fault f → Told (refused f.number (place_of at f.number f.operand)) c
+      pub told_fault : {f : Fault} → v ≡ Err f → Told (refused (number_of f.cause) (place_of at (number_of f.cause) f.operand)) c
       unfolding checked_at
       told_fault h = let z = like ∙ ap verdict_of h in (rw (d.stands, z), rw (d.stands, z))
 
-      pub told_passed : v ≡ verdict.Passed → Told (done (sketched k next)) (advance_sketch c k)
+      pub told_passed : {u : Unit {0}} → v ≡ Ok u → Told (done (sketched k next)) (advance_sketch c k)
       told_passed h =
           let z = step_checked s at left width c d.stands (like ∙ ap verdict_of h) in (
             ap (λ (j : Sketch). done (sketched j next)) (sym d.like) ∙ ap in_sketch (sym z),
@@ -74,13 +72,13 @@ module _ (s : List ℕ) (at left width : ℕ) (c : States) where
         ∙ ap (λ (n : ℕ). counted width n rest) z
 
     -- the reading from here on, by what was answered
-    abbrev pub Turn : Glimpse → Type 0
-    Turn (glimpse.Step k next) = Taken k next
-    Turn (glimpse.Refused r) = read_from left s width c at ≡ refused r.number r.place
-    Turn glimpse.End = read_from left s width c at ≡ ending width after.lines
+    abbrev pub Turn : Result (Option (Sketch × ℕ)) Refusal → Type 0
+    Turn (Ok (Some (k, next))) = Taken k next
+    Turn (Err r) = read_from left s width c at ≡ refusal_of r
+    Turn (Ok None) = read_from left s width c at ≡ ending width after.lines
 
-    pub turn : {a : Glimpse} (g : Glimpse) → a ≡ g → Told (glimpsed a) after → Turn g
-    turn (glimpse.Step k next) e told =
+    pub turn : {a : Result (Option (Sketch × ℕ)) Refusal} (g : Result (Option (Sketch × ℕ)) Refusal) → a ≡ g → Told (glimpsed a) after → Turn g
+    turn (Ok (Some (k, next))) e told =
         let d = drawn (checked_at s at left width c) (sym told.0 ∙ ap glimpsed e) in
         let on = told.1 ∙ ap (states_after c) d.stands in record {
           instruction = d.instruction;
@@ -89,8 +87,8 @@ module _ (s : List ℕ) (at left width : ℕ) (c : States) where
           allowed = passed_left s width c at left d.stands;
           goes_on = reads_on s width c at left d.stands ∙ ap (λ (x : States). before d.instruction (read_from (left - 1) s width x next)) (sym on);
         }
-    turn (glimpse.Refused r) e told =
+    turn (Err r) e told =
         reads_refused s width c at left (drawn_refused (checked_at s at left width c) (sym told.0 ∙ ap glimpsed e))
-    turn glimpse.End e told =
+    turn (Ok None) e told =
         let d = drawn_end (checked_at s at left width c) (sym told.0 ∙ ap glimpsed e) in
         reads_end s width c at left d ∙ ap (λ (x : States). ending width x.lines) (sym (told.1 ∙ ap (states_after c) d))

@@ -1,5 +1,5 @@
 -- The checks of an instruction, in the order of document 01, and what lines and bits have been through.
-use Rattle.std.specs.Prelude.{ℕ, zero, suc, ◌+◌, Bool, not, List, get_or, set, replicate, leb, eqb}
+use Rattle.std.specs.Prelude.{ℕ, zero, suc, ◌+◌, Bool, not, List, get_or, set, replicate, leb, eqb, Result, Ok, Err}
 use Rattle.basics.specs.Choice.{pick}
 use Rattle.records.specs.declared.numbers.Line.{Line}
 use Rattle.records.specs.declared.numbers.Bit.{Bit}
@@ -7,8 +7,8 @@ use Rattle.records.specs.declared.instructions.Instruction.{Instruction}
 use Rattle.records.specs.declared.instructions.Instruction.TheVariants.{Reset, Measurement, Gate, AngledGate, TwoLineGate, AngledTwoLineGate}
 use Rattle.circuits.specs.Limits.{most_wires}
 use Rattle.circuits.specs.declared.states.States.{States}
-use Rattle.circuits.specs.declared.judging.Verdict as code
-use Rattle.circuits.specs.declared.judging.Verdict.TheVariants as answer
+use Rattle.records.specs.Refusals.{number_of}
+use Rattle.circuits.specs.declared.judging.Fault.{Fault}
 
 -- Lines and bits
 
@@ -74,9 +74,9 @@ pub data Verdict : Type 0 where
   fault : ℕ → ℕ → Verdict
 
 -- what the code answers
-abbrev pub verdict_of : code.Verdict → Verdict
-verdict_of answer.Passed = passed
-verdict_of (answer.Fault f) = fault f.number f.operand
+abbrev pub verdict_of : Result (Unit {0}) Fault → Verdict
+verdict_of (Ok u) = passed
+verdict_of (Err f) = fault (number_of f.cause) f.operand
 
 -- the place of a fault of the instruction at a place: the only rule for places
 abbrev pub place_of : ℕ → ℕ → ℕ → ℕ

@@ -1,9 +1,9 @@
 -- What any byte string is as a static circuit: its width and its instructions, or a refusal of 1 to 13 and its place.
-use Rattle.std.specs.Prelude.{ℕ, zero, suc, ◌+◌, Bool, true, false, List, [], ◌∷◌, length, get_or, ltb, eqb}
-use Rattle.std.proofs.Math.Option.{Option, none, some}
+use Rattle.std.specs.Prelude.{ℕ, zero, suc, ◌+◌, Bool, true, false, List, [], ◌∷◌, length, get_or, ltb, eqb, Option, None, Some}
 use Rattle.basics.specs.Choice.{pick}
 use Rattle.basics.specs.Outcome.{Outcome, done, refused}
-use Rattle.records.specs.Kinds.{Shape, shape_of}
+use Rattle.records.specs.Kinds.{shape_of}
+use Rattle.records.specs.declared.kinds.Outline.{Outline}
 use Rattle.records.specs.Records.{Standing, stands, over, record_at}
 use Rattle.records.specs.declared.kinds.Form.{Form}
 use Rattle.records.specs.declared.kinds.Form.TheVariants as form
@@ -14,10 +14,6 @@ use Rattle.circuits.specs.Judging.{Verdict, passed, fault, place_of, judge_of, a
 use Rattle.circuits.specs.Stepping.{Next, step, end, step_at}
 use Rattle.circuits.specs.declared.circuit.Circuit.{Circuit}
 use Rattle.circuits.specs.declared.states.States.{States}
-use Rattle.circuits.specs.declared.reading.Header.{Header}
-use Rattle.circuits.specs.declared.reading.Header.TheVariants as header
-use Rattle.circuits.specs.declared.reading.Reading as code
-use Rattle.circuits.specs.declared.reading.Reading.TheVariants as answer
 
 -- a static circuit: how many wires, and its instructions in order
 pub record Static : Type 0 where
@@ -37,9 +33,9 @@ static_form form.TwoLineGate = false
 static_form form.AngledTwoLineGate = false
 static_form form.Reuse = false
 
-abbrev pub shape_static : Option Shape → Bool
-shape_static none = false
-shape_static (some h) = static_form h.form
+abbrev pub shape_static : Option Outline → Bool
+shape_static None = false
+shape_static (Some h) = static_form h.form
 
 -- the kind of a static width: 01, by the table of kinds
 abbrev pub static_kind : ℕ → Bool
@@ -60,11 +56,6 @@ headed (refused n p) = refused n p
 -- 1 the input is empty or its first byte is not 01; then 2, 3
 unfoldable pub header_of : List ℕ → Outcome ℕ
 header_of s = pick (eqb (length s) 0) (refused 1 0) (pick (static_kind (get_or s 0 0)) (headed (record_at s 0)) (refused 1 0))
-
--- what the code answers of a header
-abbrev pub header_read : Header → Outcome ℕ
-header_read (header.Width w) = done w
-header_read (header.Refused r) = refused r.number r.place
 
 -- The instructions
 
@@ -120,11 +111,7 @@ after_header s (refused n p) = refused n p
 unfoldable pub read_circuit : List ℕ → Outcome Static
 read_circuit s = after_header s (header_of s)
 
--- What the code answers
-
-abbrev pub reading_of : code.Reading → Outcome Circuit
-reading_of (answer.Valid c) = done c
-reading_of (answer.Refused r) = refused r.number r.place
+-- What is told of a circuit
 
 abbrev pub circuit_of : ℕ → ℕ → Circuit
 circuit_of w n = record { width = w; instructions = n }

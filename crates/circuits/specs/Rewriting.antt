@@ -5,8 +5,6 @@ use Rattle.records.specs.declared.instructions.Instruction.{Instruction}
 use Rattle.writing.specs.Writing.{fitted}
 use Rattle.circuits.specs.Reading.{Static, read_circuit}
 use Rattle.circuits.specs.Validity.{circuit_bytes}
-use Rattle.circuits.specs.declared.rewriting.Rewriting.{Rewriting}
-use Rattle.circuits.specs.declared.rewriting.Rewriting.TheVariants as answer
 
 abbrev pub again_of : ℕ → Outcome Static → Outcome (List ℕ)
 again_of room (done c) = fitted room (circuit_bytes c)
@@ -15,11 +13,6 @@ again_of room (refused n p) = refused n p
 -- the bytes of the circuit's records where there is room for them; the reader's refusals come before 31
 unfoldable pub rewritten : List ℕ → ℕ → Outcome (List ℕ)
 rewritten s room = again_of room (read_circuit s)
-
--- what the code answers: how many bytes are written
-abbrev pub rewriting_of : Rewriting → Outcome ℕ
-rewriting_of (answer.Done n) = done n
-rewriting_of (answer.Refused r) = refused r.number r.place
 
 -- the instructions that were read; none of a refused circuit
 abbrev pub steps_of : Outcome Static → List Instruction

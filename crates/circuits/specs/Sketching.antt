@@ -1,5 +1,5 @@
 -- An instruction in sketch: without its kind's number and its angle, which no check asks for.
-use Rattle.std.specs.Prelude.{ℕ}
+use Rattle.std.specs.Prelude.{ℕ, Option, None, Some, Result, Ok, Err}
 use Rattle.basics.specs.Outcome.{Outcome, done, refused}
 use Rattle.records.specs.declared.kinds.Form.{Form}
 use Rattle.records.specs.declared.kinds.Form.TheVariants as form
@@ -10,8 +10,8 @@ use Rattle.circuits.specs.Stepping.{Next, step, end}
 use Rattle.circuits.specs.declared.states.States.{States}
 use Rattle.circuits.specs.declared.sketching.Sketch.{Sketch}
 use Rattle.circuits.specs.declared.sketching.Sketch.TheVariants as sketch
-use Rattle.circuits.specs.declared.sketching.Glimpse.{Glimpse}
-use Rattle.circuits.specs.declared.sketching.Glimpse.TheVariants as glimpse
+use Rattle.records.specs.Refusals.{refusal_of}
+use Rattle.records.specs.declared.refusals.Refusal.{Refusal}
 
 abbrev pub sketch_of : Instruction → Sketch
 sketch_of (Reset l) = sketch.Reset l
@@ -27,10 +27,10 @@ pub data Sight : Type 0 where
   over : Sight
 
 -- what the code answers
-abbrev pub glimpsed : Glimpse → Outcome Sight
-glimpsed (glimpse.Step k next) = done (sketched k next)
-glimpsed (glimpse.Refused r) = refused r.number r.place
-glimpsed glimpse.End = done over
+abbrev pub glimpsed : Result (Option (Sketch × ℕ)) Refusal → Outcome Sight
+glimpsed (Ok (Some (k, next))) = done (sketched k next)
+glimpsed (Ok None) = done over
+glimpsed (Err r) = refusal_of r
 
 -- the next step in sketch
 abbrev pub in_sketch : Outcome Next → Outcome Sight

@@ -1,14 +1,14 @@
 -- The next step of a static circuit: the end of the input, or 5, 4, 2, or an instruction.
-use Rattle.std.specs.Prelude.{ℕ, suc, ◌≤◌, Bool, false, ◌≡◌, List, [], ◌∷◌, length, get_or, leb, eqb}
-use Rattle.std.proofs.Math.Option.{Option, none, some}
+use Rattle.std.specs.Prelude.{ℕ, suc, ◌≤◌, Bool, false, ◌≡◌, List, [], ◌∷◌, length, get_or, leb, eqb, Option, None, Some, Result, Ok, Err}
 use Rattle.basics.specs.Choice.{pick}
 use Rattle.basics.specs.Outcome.{Outcome, done, refused}
-use Rattle.records.specs.Kinds.{Shape, shape_of, instruction_form}
+use Rattle.records.specs.Kinds.{shape_of, instruction_form}
+use Rattle.records.specs.declared.kinds.Outline.{Outline}
 use Rattle.records.specs.Records.{Standing, stands, over, record_at}
 use Rattle.records.specs.declared.instructions.Instruction.{Instruction}
 use Rattle.records.specs.declared.instructions.Record.TheVariants.{StaticWidth, DynamicWidth, Step, Reuse}
-use Rattle.circuits.specs.declared.stepping.Found.{Found}
-use Rattle.circuits.specs.declared.stepping.Found.TheVariants as found
+use Rattle.records.specs.Refusals.{refusal_of}
+use Rattle.records.specs.declared.refusals.Refusal.{Refusal}
 
 -- an instruction and the place after it, or the end of the input
 pub data Next : Type 0 where
@@ -16,14 +16,14 @@ pub data Next : Type 0 where
   end : Next
 
 -- what the code answers
-abbrev pub found_of : Found → Outcome Next
-found_of (found.Step i next) = done (step i next)
-found_of (found.Refused r) = refused r.number r.place
-found_of found.End = done end
+abbrev pub found_of : Result (Option (Instruction × ℕ)) Refusal → Outcome Next
+found_of (Ok (Some (i, next))) = done (step i next)
+found_of (Ok None) = done end
+found_of (Err r) = refusal_of r
 
-abbrev pub shape_allowed : Option Shape → Bool
-shape_allowed none = false
-shape_allowed (some h) = instruction_form h.form
+abbrev pub shape_allowed : Option Outline → Bool
+shape_allowed None = false
+shape_allowed (Some h) = instruction_form h.form
 
 -- the kinds that may stand after the first record: 10, 11 and 20 to 5F, by the table of kinds
 abbrev pub kind_allowed : ℕ → Bool

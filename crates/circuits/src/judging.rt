@@ -1,74 +1,69 @@
 // An instruction judged after those before it: 6, 7, then for the first and then the second line 10 before 8 or 9, then
 // 11, 12. The judge never sees bytes; it says which operand is at fault, and `place_of` alone says where that is.
 ghost use Rattle.std.specs.Prelude.{◌≡◌, List, ℕ};
+ghost use Rattle.records.specs.Refusals.{number_of};
 ghost use Rattle.circuits.specs.Judging.{states_of, verdict_of, fault, place_of, live, judge_reset, judge_measurement, judge_gate, judge_two};
 ghost use Rattle.circuits.specs.Sketching.{judge_sketch, advance_sketch};
 
 use crate::sketching::Sketch;
 use crate::states::{States, set_state, state_at};
-use records::{Bit, Line};
+use records::{Bit, Cause, Line};
 
-// A number of document 01's table, and which operand it speaks of: 1 the first, 2 the second.
+// Why an instruction is refused, and which of its operands is at fault: 1 the first, 2 the second.
 #[derive(Clone, Copy)]
 pub struct Fault {
-    pub number: u8,
+    pub cause: Cause,
     pub operand: u8,
 }
 
-#[derive(Clone, Copy)]
-pub enum Verdict {
-    Passed,
-    Fault(Fault),
-}
-
-fn at_fault(number: u8, operand: u8) -> Verdict
-    ensures { verdict_of result ≡ fault number operand }
+fn at_fault(cause: Cause, operand: u8) -> Result<(), Fault>
+    ensures { verdict_of result ≡ fault (number_of cause) operand }
 {
-    Verdict::Fault(Fault { number, operand })
+    Err(Fault { cause, operand })
 }
 
-// The place that is reported for a fault of the instruction at a place: the instruction's.
-pub fn place_of(at: usize, f: Fault) -> usize
-    ensures { result ≡ place_of at f.number f.operand }
+// The place that is reported for a fault of the instruction at a place: the instruction's. The number stays one: any is answered.
+pub fn place_of(at: usize, number: u8, operand: u8) -> usize
+    ensures { result ≡ place_of at number operand }
 {
     at
 }
 
 // A gate or a measurement needs a line that is reset and not measured. It asks for no bit's state.
-fn judge_live(progress: &[u8], line: Line, operand: u8) -> Verdict
+fn judge_live(progress: &[u8], line: Line, operand: u8) -> Result<(), Fault>
     ensures { (bs : List ℕ) → verdict_of result ≡ live operand (states_of progress.now bs) line }
 {
     let state = state_at(progress, line.0);
     if state == States::DONE {
-        return at_fault(10, operand);
+        return at_fault(Cause::AlreadyMeasured, operand);
     }
     if state == States::FRESH {
-        return at_fault(8, operand);
+        return at_fault(Cause::NotYetReset, operand);
     }
-    Verdict::Passed
+    Ok(())
 }
 
-fn judge_reset(lines: u8, progress: &[u8], line: Line) -> Verdict
+fn judge_reset(lines: u8, progress: &[u8], line: Line) -> Result<(), Fault>
     ensures { (bs : List ℕ) → verdict_of result ≡ judge_reset lines (states_of progress.now bs) line }
 {
     if lines <= line.0 {
-        return at_fault(6, 1);
+        return at_fault(Cause::LineOutside, 1);
     }
     let state = state_at(progress, line.0);
     if state == States::DONE {
-        return at_fault(10, 1);
+        return at_fault(Cause::AlreadyMeasured, 1);
     }
     if state == States::IN_USE {
-        return at_fault(9, 1);
+        return at_fault(Cause::AlreadyReset, 1);
     }
-    Verdict::Passed
+    Ok(())
 }
 
-fn judge_gate(lines: u8, progress: &[u8], line: Line) -> Verdict
+fn judge_gate(lines: u8, progress: &[u8], line: Line) -> Result<(), Fault>
     ensures { (bs : List ℕ) → verdict_of result ≡ judge_gate lines (states_of progress.now bs) line }
 {
     if lines <= line.0 {
-        return at_fault(6, 1);
+        return at_fault(Cause::LineOutside, 1);
     }
     judge_live(progress, line, 1)
 }
@@ -80,43 +75,37 @@ fn judge_measurement(
     uses: &[u8],
     line: Line,
     bit: Bit,
-) -> Verdict
+) -> Result<(), Fault>
     ensures { verdict_of result ≡ judge_measurement lines bits (states_of progress.now uses.now) line bit }
 {
-    match judge_gate(lines, progress, line) {
-        Verdict::Fault(f) => Verdict::Fault(f),
-        Verdict::Passed => {
-            if bits <= bit.0 {
-                return at_fault(11, 2);
-            }
-            if state_at(uses, bit.0) == States::USED {
-                return at_fault(12, 2);
-            }
-            Verdict::Passed
-        }
+    judge_gate(lines, progress, line)?;
+    if bits <= bit.0 {
+        return at_fault(Cause::BitOutside, 2);
     }
+    if state_at(uses, bit.0) == States::USED {
+        return at_fault(Cause::BitAlreadyUsed, 2);
+    }
+    Ok(())
 }
 
-fn judge_two(lines: u8, progress: &[u8], first: Line, second: Line) -> Verdict
+fn judge_two(lines: u8, progress: &[u8], first: Line, second: Line) -> Result<(), Fault>
     ensures { (bs : List ℕ) → verdict_of result ≡ judge_two lines (states_of progress.now bs) first second }
 {
     if lines <= first.0 {
-        return at_fault(6, 1);
+        return at_fault(Cause::LineOutside, 1);
     }
     if lines <= second.0 {
-        return at_fault(6, 2);
+        return at_fault(Cause::LineOutside, 2);
     }
     if first.0 == second.0 {
-        return at_fault(7, 2);
+        return at_fault(Cause::LineNamedTwice, 2);
     }
-    match judge_live(progress, first, 1) {
-        Verdict::Fault(f) => Verdict::Fault(f),
-        Verdict::Passed => judge_live(progress, second, 2),
-    }
+    judge_live(progress, first, 1)?;
+    judge_live(progress, second, 2)
 }
 
 // The first fault of an instruction, known by its sketch, in a circuit of so many lines and bits.
-pub fn judge(lines: u8, bits: u8, progress: &[u8], uses: &[u8], sketch: Sketch) -> Verdict
+pub fn judge(lines: u8, bits: u8, progress: &[u8], uses: &[u8], sketch: Sketch) -> Result<(), Fault>
     ensures { verdict_of result ≡ judge_sketch lines bits (states_of progress.now uses.now) sketch }
 {
     match sketch {

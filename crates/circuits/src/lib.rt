@@ -12,11 +12,11 @@ pub mod stepping;
 pub mod taking;
 
 pub use circuit::Circuit;
-pub use judging::{Fault, Verdict, advance, judge, place_of};
+pub use judging::{Fault, advance, judge, place_of};
 pub use lines::wire_of;
-pub use reading::{Header, Reading, close, read, read_header};
-pub use rewriting::{Rewriting, rewrite};
-pub use sketching::{Glimpse, Sketch, sketch_at};
+pub use reading::{close, read, read_header};
+pub use rewriting::rewrite;
+pub use sketching::{Sketch, sketch_at};
 pub use states::States;
-pub use stepping::{Found, step_at};
+pub use stepping::step_at;
 pub use taking::take_step;

@@ -1,12 +1,12 @@
 // An instruction without its kind's number and its angle: all that is needed to judge it. `sketch_at` finds it by one
 // look at the kind and one test of the length, and reads one or two operands.
 ghost use Rattle.std.specs.Prelude.{◌≡◌, ◌+◌, ◌<◌, length};
-ghost use Rattle.basics.specs.Outcome.{done, refused};
+ghost use Rattle.basics.specs.Outcome.{done};
 ghost use Rattle.records.specs.Records.{stands, decode_at};
 ghost use Rattle.circuits.specs.Stepping.{step_of, step_at};
 ghost use Rattle.circuits.specs.Sketching.{glimpsed, in_sketch, operands_of};
 
-use records::{Bit, Form, Line, Outline, Refusal, is_instruction, shape};
+use records::{Bit, Cause, Form, Line, Refusal, is_instruction, shape};
 
 #[derive(Clone, Copy)]
 pub enum Sketch {
@@ -18,22 +18,13 @@ pub enum Sketch {
     Two(Line, Line),
 }
 
-#[derive(Clone, Copy)]
-pub enum Glimpse {
-    // The sketch of the instruction that stands there, and the place after it.
-    Step { sketch: Sketch, next: usize },
-    Refused(Refusal),
-    End,
-}
-
-fn refuse(number: u8, place: usize) -> Glimpse
-    ensures { glimpsed result ≡ refused number place }
-{
-    Glimpse::Refused(Refusal { number, place })
-}
-
-// The record of a known form as the next step: only an instruction is one, and its operands lie inside the bytes.
-fn sketch_in(form: Form, s: &[u8], at: usize, next: usize) -> Glimpse
+// An instruction of a known form in sketch, and the place after it: its operands lie inside the bytes. No other record is a step.
+fn sketch_in(
+    form: Form,
+    s: &[u8],
+    at: usize,
+    next: usize,
+) -> Result<Option<(Sketch, usize)>, Refusal>
     requires { at + operands_of form < length s.now }
     ensures { glimpsed result ≡ in_sketch (step_of at (done (stands (decode_at form s.now at) next))) }
 {
@@ -45,33 +36,30 @@ fn sketch_in(form: Form, s: &[u8], at: usize, next: usize) -> Glimpse
         Form::AngledGate => Sketch::One(first),
         Form::TwoLineGate => Sketch::Two(first, Line(s[at + 2])),
         Form::AngledTwoLineGate => Sketch::Two(first, Line(s[at + 2])),
-        Form::StaticWidth => return refuse(4, at),
-        Form::DynamicWidth => return refuse(4, at),
-        Form::Reuse => return refuse(4, at),
+        Form::StaticWidth => return Err(Cause::NoInstruction.at(at)),
+        Form::DynamicWidth => return Err(Cause::NoInstruction.at(at)),
+        Form::Reuse => return Err(Cause::NoInstruction.at(at)),
     };
-    Glimpse::Step { sketch, next }
+    Ok(Some((sketch, next)))
 }
 
-// The step at a place in sketch, where `left` more instructions are allowed: the end of the input, or 5, 4, 2, or a sketch.
-pub fn sketch_at(s: &[u8], at: usize, left: usize) -> Glimpse
+// The step at a place in sketch and the place after it, where `left` more are allowed; nothing at the end of the input; or 5, 4, 2.
+pub fn sketch_at(s: &[u8], at: usize, left: usize) -> Result<Option<(Sketch, usize)>, Refusal>
     ensures { glimpsed result ≡ in_sketch (step_at s.now at left) }
 {
     if s.len() <= at {
-        return Glimpse::End;
+        return Ok(None);
     }
     if left == 0 {
-        return refuse(5, at);
+        return Err(Cause::TooManyInstructions.at(at));
     }
     match shape(s[at]) {
-        Outline::Unknown => refuse(4, at),
-        Outline::Body(form, length, _) => {
-            if is_instruction(form) {
-                if s.len() - at <= length {
-                    return refuse(2, at);
-                }
-                return sketch_in(form, s, at, at + 1 + length);
+        Some(outline) if is_instruction(outline.form) => {
+            if s.len() - at <= outline.body {
+                return Err(Cause::CutBody.at(at));
             }
-            refuse(4, at)
+            sketch_in(outline.form, s, at, at + 1 + outline.body)
         }
+        _ => Err(Cause::NoInstruction.at(at)),
     }
 }

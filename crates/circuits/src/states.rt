@@ -36,11 +36,10 @@ impl States {
 pub(crate) fn state_at(states: &[u8], number: u8) -> u8
     ensures { result ≡ get_or states.now number fresh }
 {
-    let n = number as usize;
-    if n < states.len() {
-        return states[n];
-    }
-    States::FRESH
+    states
+        .get(number as usize)
+        .copied()
+        .unwrap_or(States::FRESH)
 }
 
 // Changes one state; past the last nothing.
@@ -48,6 +47,7 @@ pub(crate) fn set_state(states: &mut [u8], number: u8, state: u8)
     ensures { states.new ≡ set states.old number state }
 {
     let n = number as usize;
+    // By `get_mut` the proof did not close: what is stored through the element is not told of the slice.
     if n < states.len() {
         states[n] = state;
     }

@@ -5,8 +5,8 @@ ghost use Rattle.circuits.specs.Judging.{states_of};
 ghost use Rattle.circuits.specs.Sketching.{glimpsed, in_sketch};
 ghost use Rattle.circuits.specs.Reading.{checked_at, states_after};
 
-use crate::judging::{Verdict, advance, judge, place_of};
-use crate::sketching::{Glimpse, sketch_at};
+use crate::judging::{advance, judge, place_of};
+use crate::sketching::{Sketch, sketch_at};
 use records::Refusal;
 
 // The next step in sketch. Where it passes, the states of the lines and of the bits are brought on past it; else they stay.
@@ -17,23 +17,17 @@ pub fn take_step(
     width: u8,
     progress: &mut [u8],
     uses: &mut [u8],
-) -> Glimpse
+) -> Result<Option<(Sketch, usize)>, Refusal>
     ensures result_value { glimpsed result ≡ in_sketch (checked_at s.now at left width (states_of progress.old uses.old)) }
     ensures uses_after { states_of progress.new uses.new ≡ states_after (states_of progress.old uses.old) (checked_at s.now at left width (states_of progress.old uses.old)) }
 {
-    let seen = sketch_at(s, at, left);
-    match seen {
-        Glimpse::End => Glimpse::End,
-        Glimpse::Refused(r) => Glimpse::Refused(r),
-        Glimpse::Step { sketch, next } => match judge(width, width, progress, uses, sketch) {
-            Verdict::Fault(f) => Glimpse::Refused(Refusal {
-                number: f.number,
-                place: place_of(at, f),
-            }),
-            Verdict::Passed => {
-                advance(progress, uses, sketch);
-                Glimpse::Step { sketch, next }
-            }
-        },
+    let Some((sketch, next)) = sketch_at(s, at, left)? else {
+        return Ok(None);
+    };
+    if let Err(fault) = judge(width, width, progress, uses, sketch) {
+        let place = place_of(at, fault.cause.number(), fault.operand);
+        return Err(fault.cause.at(place));
     }
+    advance(progress, uses, sketch);
+    Ok(Some((sketch, next)))
 }

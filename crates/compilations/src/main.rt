@@ -5,7 +5,7 @@ ghost use Rattle.std.specs.Prelude.{◌≤◌};
 
 use std::fmt;
 use std::fmt::{Display, Formatter, Write};
-use writer::{Compiling, compile};
+use writer::compile;
 
 // Room for any of the circuits here, compiled.
 const ROOM: usize = 32;
@@ -31,14 +31,14 @@ fn show(rt: &impl Print, name: &str, circuit: &[u8], list: &[u8], room: usize)
     let mut buffer = [0u8; ROOM];
     let out = &mut buffer[..room];
     let _ = match compile(circuit, list, out) {
-        Compiling::Done(counts) => {
+        Ok(counts) => {
             let bytes = counts.bytes;
             let qubits = counts.qubits;
             let pairs = counts.pairs;
             let written = Hexadecimal(out.get(..bytes).unwrap_or(&[]));
             println!(rt; "{name}: bytes {bytes} qubits {qubits} pairs {pairs}:{written}")
         }
-        Compiling::Refused(r) => println!(rt; "{name}: refused {} at {}", r.number, r.place),
+        Err(r) => println!(rt; "{name}: {r}"),
     };
 }
 

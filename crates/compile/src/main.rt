@@ -3,19 +3,21 @@
 #![tactic(auto)]
 
 ghost use Rattle.std.specs.Prelude.{◌≡◌, ◌≤◌, length, take, IfOk};
+ghost use Rattle.records.specs.Refusals.{outcome_of};
 ghost use Rattle.circuits.specs.Limits.{most_wires, deciding_bytes};
 ghost use Rattle.table.specs.Starting.{started};
 ghost use Rattle.pairs.specs.Listing.{deciding_list_bytes};
-ghost use Rattle.writer.specs.Compiling.{compiled, compiling_of, Compiled};
+ghost use Rattle.writer.specs.Compiling.{compiled, Compiled};
 ghost use Rattle.texts.specs.Listings.{longest_counts};
 ghost use Rattle.compile.specs.Running.{chosen_list, wires_told, bytes_told, answer_line};
 
 use circuits::Circuit;
 use inputs::Reason;
+use records::Refusal;
 use std::env::{Env, FillError};
 use std::rt::Files;
 use std::{fs, io, str};
-use writer::Compiling;
+use writer::Counts;
 
 // The arguments; the program's own name is the one before them.
 const CIRCUIT: usize = 1;
@@ -101,35 +103,39 @@ fn write_file(rt: &(impl Env + Files + Eprint), argument: usize, bytes: &[u8]) -
     fs::write(rt, name, bytes).map_err(|e| tell(rt, name, e))
 }
 
-// The records of the pairs that are chosen greedily from a circuit's table, at the front of a buffer that has room for any list.
+// The records of the pairs that are chosen greedily from a circuit's table, at the front of a buffer that has room for any list; none
+// of a circuit that is refused.
 fn choose_list(circuit: &[u8], list: &mut [u8]) -> usize
     requires { deciding_list_bytes ≤ length list.old }
     ensures { (result ≤ length list.new) × (take result list.new ≡ chosen_list (started circuit.now)) }
 {
-    let table = table::start(circuit).table;
-    let rounds = choosers::greedy(table).rounds;
+    let Ok(table) = table::start(circuit) else {
+        return 0;
+    };
+    // Greedy refuses only a wrong width.
+    let rounds = choosers::greedy(table).unwrap();
     lists::put_list(list, 0, rounds.list)
 }
 
 // The line of an answer, at the front of a buffer that has room for any.
-fn line_of(line: &mut [u8], answer: Compiling) -> usize
+fn line_of(line: &mut [u8], answer: Result<Counts, Refusal>) -> usize
     requires longest_counts_in_bounds { longest_counts ≤ length line.old }
-    requires answer_bound { wires_told (compiling_of answer) ≤ most_wires }
-    ensures { (result ≤ length line.new) × (take result line.new ≡ answer_line (compiling_of answer)) }
+    requires answer_bound { wires_told (outcome_of answer) ≤ most_wires }
+    ensures { (result ≤ length line.new) × (take result line.new ≡ answer_line (outcome_of answer)) }
 {
     match answer {
-        Compiling::Done(counts) => {
+        Ok(counts) => {
             let qubits = counts.qubits as usize;
             let pairs = counts.pairs;
             texts::put_compiled(line, 0, qubits + pairs, qubits, pairs, counts.bytes)
         }
-        Compiling::Refused(r) => texts::put_refusal(line, 0, r.number, r.place),
+        Err(r) => texts::put_refusal(line, 0, r.cause.number(), r.place),
     }
 }
 
 // Prints the line of an answer.
-fn print_answer(rt: &(impl Print + Eprint), answer: Compiling) -> Result<(), Told>
-    requires { wires_told (compiling_of answer) ≤ most_wires }
+fn print_answer(rt: &(impl Print + Eprint), answer: Result<Counts, Refusal>) -> Result<(), Told>
+    requires { wires_told (outcome_of answer) ≤ most_wires }
 {
     let mut line = [0u8; texts::LONGEST_COUNTS];
     let length = line_of(&mut line, answer);
@@ -138,22 +144,26 @@ fn print_answer(rt: &(impl Print + Eprint), answer: Compiling) -> Result<(), Tol
 }
 
 // Compiles into a buffer that has room for any output: more room would change nothing.
-fn compile_into(circuit: &[u8], list: &[u8], out: &mut [u8]) -> Compiling
+fn compile_into(circuit: &[u8], list: &[u8], out: &mut [u8]) -> Result<Counts, Refusal>
     requires { deciding_bytes ≤ length out.old }
-    ensures compiled { Compiled out.old (compiled circuit.now list.now deciding_bytes) (compiling_of result) out.new }
-    ensures few { wires_told (compiling_of result) ≤ most_wires }
-    ensures fits { bytes_told (compiling_of result) ≤ length out.new }
+    ensures compiled { Compiled out.old (compiled circuit.now list.now deciding_bytes) (outcome_of result) out.new }
+    ensures few { wires_told (outcome_of result) ≤ most_wires }
+    ensures fits { bytes_told (outcome_of result) ≤ length out.new }
 {
     writer::compile(circuit, list, out)
 }
 
 // Writes the output file where the circuit and the pairs are accepted.
-fn write_output(rt: &(impl Env + Files + Eprint), answer: Compiling, out: &[u8]) -> Result<(), Told>
-    requires { bytes_told (compiling_of answer) ≤ length out.now }
+fn write_output(
+    rt: &(impl Env + Files + Eprint),
+    answer: Result<Counts, Refusal>,
+    out: &[u8],
+) -> Result<(), Told>
+    requires { bytes_told (outcome_of answer) ≤ length out.now }
 {
     match answer {
-        Compiling::Done(counts) => write_file(rt, OUTPUT, &out[..counts.bytes]),
-        Compiling::Refused(_) => Ok(()),
+        Ok(counts) => write_file(rt, OUTPUT, &out[..counts.bytes]),
+        Err(_) => Ok(()),
     }
 }
 

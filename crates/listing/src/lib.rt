@@ -8,7 +8,7 @@ ghost use Rattle.choosers.specs.Results.{pairs_of, Sized};
 ghost use Rattle.listing.specs.Printing.{pair_lines, chosen_lines, printed, longest_listing};
 
 use choosers::{PairList, greedy};
-use table::{Start, Table};
+use table::Table;
 
 // Room for any listing: the first line and the most pairs.
 pub const LONGEST: usize = texts::LONGEST_COUNTS + PairList::MOST * texts::LONGEST_PAIR;
@@ -26,14 +26,13 @@ fn write_pairs(out: &mut [u8], at: usize, list: PairList) -> usize
     to
 }
 
-// Writes the listing of what is chosen from a table. Greedy refuses only a wrong width, so its answer is not asked for.
+// Writes the listing of what is chosen from a table. Greedy refuses only a wrong width.
 fn write_choice(out: &mut [u8], table: Table) -> usize
     requires table_value { wrong_width table ≡ false }
     requires longest_listing_in_bounds { longest_listing ≤ length out.old }
     ensures { Wrote out.old 0 (chosen_lines table) out.new result }
 {
-    let chosen = greedy(table);
-    let rounds = chosen.rounds;
+    let rounds = greedy(table).unwrap();
     let list = rounds.list;
     let to = texts::put_summary(
         out,
@@ -50,12 +49,9 @@ fn write_listing(out: &mut [u8], circuit: &[u8]) -> usize
     requires { longest_listing ≤ length out.old }
     ensures { Written out.old 0 longest_listing (printed circuit.now) out.new result }
 {
-    let started = table::start(circuit);
-    let answer = started.answer;
-    let table = started.table;
-    match answer {
-        Start::Done => write_choice(out, table),
-        Start::Refused(r) => texts::put_refusal(out, 0, r.number, r.place),
+    match table::start(circuit) {
+        Ok(table) => write_choice(out, table),
+        Err(refusal) => texts::put_refusal(out, 0, refusal.cause.number(), refusal.place),
     }
 }
 

@@ -5,7 +5,7 @@ use mathlib.Core.Path.{◌≡◌, refl, sym, ap, subst, ◌∙◌}
 use mathlib.Core.Logic.{inl, inr}
 use mathlib.Core.Bool.{Bool, true, false}
 use mathlib.Core.List.{List, ◌∷◌}
-use mathlib.Core.Option.{Option}
+use Rattle.std.specs.Prelude.{Option}
 use native.Mathlib.Omega.{arith}
 use lib.Dec.{eqb}
 use lib.ListN.{length, get_or, take}
@@ -16,7 +16,8 @@ use Rattle.basics.specs.Outcome.{Outcome, done, refused}
 use Rattle.basics.proofs.Tests.{true_or_false, not_both, below_or_not}
 use Rattle.orders.specs.Runs.{Pair, Circuit, Lawful}
 use Rattle.orders.proofs.Pairs.{allowed_few}
-use Rattle.records.specs.Kinds.{Shape, shape_of}
+use Rattle.records.specs.Kinds.{shape_of}
+use Rattle.records.specs.declared.kinds.Outline.{Outline}
 use Rattle.records.specs.Records.{stands, record_at, wire}
 use Rattle.records.specs.declared.instructions.Record.TheVariants.{Reuse}
 use Rattle.records.specs.declared.kinds.Form.TheVariants as form
@@ -45,7 +46,7 @@ pair_kind_lem k e = elim (true_or_false (eqb k 0x60)) [
       )
 ]
   where
-    other : (b : Bool) (x y : Option Shape) → shape_pair x ≡ false → shape_pair y ≡ false → shape_pair (pick b x y) ≡ false
+    other : (b : Bool) (x y : Option Outline) → shape_pair x ≡ false → shape_pair y ≡ false → shape_pair (pick b x y) ≡ false
     other true x y e f = e
     other false x y e f = f
 

@@ -12,6 +12,8 @@ use Rattle.basics.specs.Outcome.{Outcome, done, refused}
 use Rattle.basics.proofs.Outcomes.{not_refused}
 use Rattle.orders.specs.Runs.{Pair}
 use Rattle.records.specs.Records.{Standing, stands, over, record_at}
+use Rattle.records.specs.declared.numbers.Wire.{Wire}
+use Rattle.records.specs.declared.instructions.Record.{Record}
 use Rattle.records.specs.declared.instructions.Record.TheVariants.{StaticWidth, DynamicWidth, Step, Reuse}
 use Rattle.records.proofs.Standings.{over_end}
 use Rattle.records.proofs.RoundTrip.{Back, round_trip}
@@ -21,11 +23,19 @@ use Rattle.table.specs.Growing.{Growing}
 use Rattle.table.specs.declared.tables.Table.{Table}
 use Rattle.table.proofs.Offers.{taken_updated}
 use Rattle.pairs.specs.Lending.{nobody_lends, lent, lenders_in}
-use Rattle.pairs.specs.Listing.{Next, pair, end, pair_kind, pair_record, pair_of, pair_at, pairs_from, read_pairs, PairsSettled}
+use Rattle.pairs.specs.Listing.{Next, pair, end, pair_kind, pair_record, pair_of, pair_at, pairs_from, read_pairs, paired}
+use Rattle.pairs.specs.declared.listing.Paired.{Paired}
 use Rattle.pairs.specs.declared.lending.Lenders.{Lenders}
 
 not_end : {p : Pair} {next : ℕ} → ◌≡◌ {A = Outcome Next} (done end) (done (pair p next)) → ⊥
 not_end {p} {next} e = let z : ◌≡◌ {A = ℕ} 0 1 = cc in omega arith
+
+-- another record is no pair
+pub not_pair : (index : ℕ) (r : Record) (next : ℕ) → ((l t : Wire) → r ≡ Reuse l t → ⊥) → pair_of index (done (stands r next)) ≡ refused 24 index
+not_pair index (StaticWidth w) next other = refl
+not_pair index (DynamicWidth q b) next other = refl
+not_pair index (Step i) next other = refl
+not_pair index (Reuse l t) next other = absurd (other l t refl)
 
 -- a pair that was found: its record's bytes stand there
 pub pair_back : (s : List ℕ) (at index : ℕ) {p : Pair} {next : ℕ} → pair_at s at index ≡ done (pair p next) → Back s at (pair_record p) next
@@ -122,11 +132,6 @@ module _ (s : List ℕ) (at index more : ℕ) (g : Growing) (some : 0 < more) wh
     unfolding pairs_from
     pairs_on f = ap (λ (n : ℕ). pairs_from n s at index g) (sym one_more) ∙ rw (e, f)
 
--- what is settled is settled as what is equal to it
-pub settled_as : {t now : Table} {o q : Outcome Growing} {answered : Outcome ℕ} {lenders : List ℕ} → o ≡ q → PairsSettled t o answered now lenders
-    → PairsSettled t q answered now lenders
-settled_as {t} {now} {o} {q} {answered} {lenders} e h = subst (λ (r : Outcome Growing). PairsSettled t r answered now lenders) e h
-
 -- The loop
 
 -- the pairs taken so far, that after the first the table is clean, and that reading on from here ends where the whole reading does
@@ -160,11 +165,11 @@ module _ (t : Table) (s : List ℕ) where
     some = omega (arith, g.onward, g.inside)
 
     -- at the end of the list
-    pub going_end : pair_at s at index ≡ done end → PairsSettled t (read_pairs t s) (done index) now lenders.lenders
+    pub going_end : pair_at s at index ≡ done end → done (record { count = index; table = now; lenders = lenders }) ≡ paired (read_pairs t s)
     unfolding growing
     going_end e =
-        settled_as (sym (pairs_end s at index (suc (length s) - index) growing some e) ∙ g.reads)
-        (record { tells = ap done (sym g.counted); leaves = refl; lends = g.lends })
+        (λ i. done (record { count = sym g.counted i; table = now; lenders = record { lenders = g.lends i } }))
+        ∙ ap paired (sym (pairs_end s at index (suc (length s) - index) growing some e) ∙ g.reads)
 
     -- at a refusal
     pub going_refused : {n p : ℕ} → pair_at s at index ≡ refused n p → refused n p ≡ read_pairs t s

@@ -1,10 +1,10 @@
 -- What any byte string is as a pair list against a table: the pairs, each taken in turn, or a refusal at a pair's index.
-use Rattle.std.specs.Prelude.{ℕ, zero, suc, ◌+◌, ◌*◌, ◌≡◌, Bool, true, false, List, [], ◌∷◌, ◌++◌, length, get_or, leb}
-use Rattle.std.proofs.Math.Option.{Option, none, some}
+use Rattle.std.specs.Prelude.{ℕ, zero, suc, ◌+◌, ◌*◌, ◌≡◌, Bool, true, false, List, [], ◌∷◌, ◌++◌, length, get_or, leb, Option, None, Some, Result, Ok, Err}
 use Rattle.basics.specs.Choice.{pick}
 use Rattle.basics.specs.Outcome.{Outcome, done, refused}
 use Rattle.orders.specs.Runs.{Circuit, Pair, Allowed}
-use Rattle.records.specs.Kinds.{Shape, shape_of}
+use Rattle.records.specs.Kinds.{shape_of}
+use Rattle.records.specs.declared.kinds.Outline.{Outline}
 use Rattle.records.specs.Records.{Standing, stands, over, record_at, wire}
 use Rattle.records.specs.Bytes.{record_bytes}
 use Rattle.records.specs.declared.instructions.Record.{Record}
@@ -16,10 +16,9 @@ use Rattle.table.specs.Calls.{offered}
 use Rattle.table.specs.Growing.{Growing}
 use Rattle.table.specs.declared.tables.Table.{Table}
 use Rattle.pairs.specs.Lending.{nobody_lends, lenders_in}
-use Rattle.pairs.specs.declared.listing.Found.{Found}
-use Rattle.pairs.specs.declared.listing.Found.TheVariants as found
-use Rattle.pairs.specs.declared.listing.Pairs.{Pairs}
-use Rattle.pairs.specs.declared.listing.Pairs.TheVariants as answer
+use Rattle.records.specs.Refusals.{refusal_of}
+use Rattle.records.specs.declared.numbers.Wire.{Wire}
+use Rattle.records.specs.declared.refusals.Refusal.{Refusal}
 use Rattle.pairs.specs.declared.listing.Paired.{Paired}
 
 abbrev pub pair_form : Form → Bool
@@ -33,9 +32,9 @@ pair_form form.TwoLineGate = false
 pair_form form.AngledTwoLineGate = false
 pair_form form.Reuse = true
 
-abbrev pub shape_pair : Option Shape → Bool
-shape_pair none = false
-shape_pair (some h) = pair_form h.form
+abbrev pub shape_pair : Option Outline → Bool
+shape_pair None = false
+shape_pair (Some h) = pair_form h.form
 
 -- the kind of a reuse pair: 60, by the table of kinds
 abbrev pub pair_kind : ℕ → Bool
@@ -65,10 +64,10 @@ pub data Next : Type 0 where
   end : Next
 
 -- what the code answers
-abbrev pub found_pair : Found → Outcome Next
-found_pair (found.Pair lender taker next) = done (pair (lender.0, taker.0) next)
-found_pair (found.Refused r) = refused r.number r.place
-found_pair found.End = done end
+abbrev pub found_pair : Result (Option (Wire × Wire × ℕ)) Refusal → Outcome Next
+found_pair (Ok (Some (lender, taker, next))) = done (pair (lender.0, taker.0) next)
+found_pair (Ok None) = done end
+found_pair (Err r) = refusal_of r
 
 -- a record as the next pair: 24 where it is none, 25 where it is cut short
 abbrev pub pair_of : ℕ → Outcome Standing → Outcome Next
@@ -109,39 +108,7 @@ pairs_from (suc more) s at index g =
 abbrev pub read_pairs : Table → List ℕ → Outcome Growing
 read_pairs t s = pairs_from (suc (length s)) s 0 0 (record { table = t; pairs = [] })
 
--- how many pairs were taken
-abbrev pub pairs_counted : Outcome Growing → Outcome ℕ
-pairs_counted (done g) = done (length g.pairs)
-pairs_counted (refused number place) = refused number place
-
--- the table after all pairs; beside a refusal the table given
-abbrev pub table_after : Table → Outcome Growing → Table
-table_after given (done g) = g.table
-table_after given (refused number place) = given
-
--- each wire's lender; beside a refusal there are none
-abbrev pub lenders_after : Outcome Growing → List ℕ
-lenders_after (done g) = lenders_in g.pairs
-lenders_after (refused number place) = nobody_lends
-
--- What the code answers
-
--- the document's number and place, or how many pairs
-abbrev pub paired_of : Pairs → Outcome ℕ
-paired_of (answer.Accepted n) = done n
-paired_of (answer.Refused r) = refused r.number r.place
-
--- what is settled of a list: the answer, the table and the lenders
-pub record PairsSettled (given : Table) (o : Outcome Growing) (answered : Outcome ℕ) (table : Table) (lenders : List ℕ) : Type 0 where
-  pub tells : answered ≡ pairs_counted o
-  pub leaves : table ≡ table_after given o
-  pub lends : lenders ≡ lenders_after o
-
--- the same as a value
-abbrev pub pairs_told : Table → Outcome Growing → Paired
-pairs_told given (done g) = record { answer = answer.Accepted (length g.pairs); table = g.table; lenders = record { lenders = lenders_in g.pairs } }
-pairs_told given (refused number place) = record {
-  answer = answer.Refused (record { number = number; place = place });
-  table = given;
-  lenders = record { lenders = nobody_lends };
-}
+-- what is told of a list: how many pairs were taken, the table after them all, and each wire's lender
+abbrev pub paired : Outcome Growing → Outcome Paired
+paired (done g) = done (record { count = length g.pairs; table = g.table; lenders = record { lenders = lenders_in g.pairs } })
+paired (refused number place) = refused number place

@@ -5,4 +5,4 @@ pub mod lending;
 mod listing;
 
 pub use lending::Lenders;
-pub use listing::{Paired, Pairs, read_pairs};
+pub use listing::{Paired, read_pairs};

@@ -3,5 +3,4 @@ pub mod DemandTwo
 pub mod DemandThree
 pub mod Choosing
 pub mod Meaning
-pub mod Unique
 pub mod WorkedExamples

@@ -4,13 +4,14 @@ use Prim.Native.Nat.{ℕ, zero, suc, ◌+◌, ◌≤◌, ◌<◌}
 use mathlib.Core.Path.{◌≡◌, refl, sym, ap, subst, ◌∙◌}
 use mathlib.Core.Bool.{Bool, true, false}
 use mathlib.Core.List.{List}
-use mathlib.Core.Option.{Option, none, some}
+use Rattle.std.specs.Prelude.{Option, None, Some}
 use native.Mathlib.Omega.{arith}
 use lib.Dec.{ltb}
 use borrow.Author.Tests.{ltb-true, ltb-false}
 use lib.ListN.{length, get_or, take}
 use lib.Seq.{get_or-take, length-take-le, take_all}
-use Rattle.records.specs.Kinds.{Shape, shape_of}
+use Rattle.records.specs.Kinds.{shape_of}
+use Rattle.records.specs.declared.kinds.Outline.{Outline}
 use Rattle.records.specs.Records.{record_at, decode_at, stands}
 use Rattle.basics.specs.Outcome.{done}
 use Rattle.records.specs.Bytes.{record_bytes, longest_record}
@@ -79,24 +80,24 @@ module _ (s : List ℕ) (n at : ℕ) (far : at + longest_record ≤ n) where
       )
 
   -- a shape of the table has a body that is no longer than the longest record's
-  body_short : {h : Shape} → shape_of (get_or s at 0) ≡ some h → suc h.body ≤ longest_record
+  body_short : {h : Outline} → shape_of (get_or s at 0) ≡ Some h → suc h.body ≤ longest_record
   body_short {h} e =
       let here : at + 0 ≡ at = omega arith in
-      let c : Covers s at (some h) = subst (Covers s at) e (subst (λ (m : ℕ). Covers s at (shape_of (get_or s m 0))) here (covers s at)) in
+      let c : Covers s at (Some h) = subst (Covers s at) e (subst (λ (m : ℕ). Covers s at (shape_of (get_or s m 0))) here (covers s at)) in
       let l = ap length c.0 ∙ length-bytes_from s at 0 (suc h.body) in
       omega (arith, record_short (decode_at h.form s at))
 
   pub first_bytes_decide : record_at (take n s) at ≡ record_at s at
   first_bytes_decide = go (ltb n (length s)) refl
     where
-      kind : {o : Option Shape} → shape_of (get_or s at 0) ≡ o → shape_of (get_or (take n s) at 0) ≡ o
+      kind : {o : Option Outline} → shape_of (get_or s at 0) ≡ o → shape_of (get_or (take n s) at 0) ≡ o
       kind e = ap shape_of (get_or-take n s at 0 (omega arith)) ∙ e
 
-      cut : n < length s → (o : Option Shape) → shape_of (get_or s at 0) ≡ o → record_at (take n s) at ≡ record_at s at
-      cut l none e =
+      cut : n < length s → (o : Option Outline) → shape_of (get_or s at 0) ≡ o → record_at (take n s) at ≡ record_at s at
+      cut l None e =
           let size = length-take-le n s (omega arith) in
           at_unknown (take n s) at (omega arith) (kind e) ∙ sym (at_unknown s at (omega arith) e)
-      cut l (some h) e =
+      cut l (Some h) e =
           let size = length-take-le n s (omega arith) in
           let short = body_short e in
           at_record (take n s) at (omega arith) (kind e) (omega arith)

@@ -4,7 +4,7 @@ use Prim.Native.Nat.{ℕ, zero, suc, ◌+◌, ◌-◌, ◌/◌, ◌≤◌, ◌<�
 use mathlib.Core.Bool.{Bool, true, false}
 use mathlib.Core.Path.{◌≡◌, refl, sym, ap, subst, ◌∙◌}
 use mathlib.Core.List.{List, [], ◌∷◌, ◌++◌}
-use mathlib.Core.Option.{Option, none, some}
+use Rattle.std.specs.Prelude.{Option, None, Some}
 use native.Mathlib.Omega.{arith}
 use lib.ListN.{length, get_or, take, drop, length-drop, take-append-drop}
 use lib.Seq.{drop-cons, get_or-drop, drop-drop, length-take-le}
@@ -12,7 +12,8 @@ use lib.Dec.{leb, eqb}
 use borrow.Author.Tests.{leb-false, eqb-true}
 use Rattle.basics.specs.Choice.{pick}
 use Rattle.basics.specs.Outcome.{Outcome, done, refused}
-use Rattle.records.specs.Kinds.{Shape, shaped, shape_of}
+use Rattle.records.specs.Kinds.{shaped, shape_of}
+use Rattle.records.specs.declared.kinds.Outline.{Outline}
 use Rattle.records.specs.Records.{Standing, stands, over, record_at, bodied, decode_at}
 use Rattle.records.specs.Bytes.{record_bytes, kind_fits}
 use Rattle.records.specs.declared.instructions.Record.{Record}
@@ -48,12 +49,12 @@ module _ (s : List ℕ) (at : ℕ) where
     pub fits : kind_fits r ≡ true
 
   -- a shape's record has the kind byte and the body, and the kind is one of its form's
-  abbrev pub Covers : Option Shape → Type 0
-  Covers none = Unit {0}
-  Covers (some h) =
+  abbrev pub Covers : Option Outline → Type 0
+  Covers None = Unit {0}
+  Covers (Some h) =
       (record_bytes (decode_at h.form s at) ≡ bytes_from s at 0 (suc h.body)) × (kind_fits (decode_at h.form s at) ≡ true)
 
-  picked : (b : Bool) (x y : Option Shape) → (b ≡ true → Covers x) → Covers y → Covers (pick b x y)
+  picked : (b : Bool) (x y : Option Outline) → (b ≡ true → Covers x) → Covers y → Covers (pick b x y)
   picked true x y p q = p refl
   picked false x y p q = q
 
@@ -65,7 +66,7 @@ module _ (s : List ℕ) (at : ℕ) where
       (picked (eqb k 0x10) _ _ (λ e. (sole (eqb-true k 0x10 e), refl)) (picked (eqb k 0x11) _ _ (λ e. (sole (eqb-true k 0x11 e), refl))
       (picked (eqb k 0x60) _ _ (λ e. (sole (eqb-true k 0x60 e), refl)) (picked (eqb (k / 16) 2) _ _ (λ e. (refl, e)) (picked (eqb (k / 16) 3) _ _ (λ e. (refl, e))
       (picked (eqb (k / 16) 4) _ _ (λ e. (refl, e))
-      (picked (eqb (k / 16) 5) (shaped form.AngledTwoLineGate 10 2) none (λ e. (refl, e)) tt))))))))
+      (picked (eqb (k / 16) 5) (shaped form.AngledTwoLineGate 10 2) None (λ e. (refl, e)) tt))))))))
     where
       -- the kind of a form that has one only
       sole : {k : ℕ} {body : List ℕ} → get_or s (at + 0) 0 ≡ k → k ∷ body ≡ get_or s (at + 0) 0 ∷ body
@@ -76,7 +77,7 @@ module _ (s : List ℕ) (at : ℕ) where
   Backs (done over) = Unit {0}
   Backs (refused number place) = Unit {0}
 
-  whole : (h : Shape) → Covers (some h) → h.body < length s - at → Back (decode_at h.form s at) (at + 1 + h.body)
+  whole : (h : Outline) → Covers (Some h) → h.body < length s - at → Back (decode_at h.form s at) (at + 1 + h.body)
   whole h e l = record {
     past = omega arith;
     within = omega arith;
@@ -94,14 +95,14 @@ module _ (s : List ℕ) (at : ℕ) where
   unfolding record_at
   backs = ended (leb (length s) at) _ (known (shape_of (get_or s at 0)) (subst (λ (m : ℕ). Covers (shape_of (get_or s m 0))) (omega arith) covers))
     where
-      cut : (h : Shape) → Covers (some h) → (b : Bool) → leb (length s - at) h.body ≡ b
+      cut : (h : Outline) → Covers (Some h) → (b : Bool) → leb (length s - at) h.body ≡ b
           → Backs (pick b (refused 2 at) (done (stands (decode_at h.form s at) (at + 1 + h.body))))
       cut h e true t = tt
       cut h e false t = whole h e (leb-false _ _ t)
 
-      known : (o : Option Shape) → Covers o → Backs (bodied s at o)
-      known none e = tt
-      known (some h) e = cut h e (leb (length s - at) h.body) refl
+      known : (o : Option Outline) → Covers o → Backs (bodied s at o)
+      known None e = tt
+      known (Some h) e = cut h e (leb (length s - at) h.body) refl
 
       ended : (b : Bool) (o : Outcome Standing) → Backs o → Backs (pick b (done over) o)
       ended true o p = tt
@@ -138,17 +139,17 @@ module _ (s : List ℕ) (at : ℕ) {xs : List ℕ} (e : drop at s ≡ xs) where
   size_there = sym (length-drop at s) ∙ ap length e
 
   -- a record is read where a kind of its shape and its whole body stand
-  shaped_there : {r : Record} (h : Shape) → shape_of (get_or xs 0 0) ≡ some h → h.body < length xs → suc h.body ≡ length (record_bytes r)
+  shaped_there : {r : Record} (h : Outline) → shape_of (get_or xs 0 0) ≡ Some h → h.body < length xs → suc h.body ≡ length (record_bytes r)
       → decode_at h.form s at ≡ r → record_at s at ≡ done (stands r (at + length (record_bytes r)))
   shaped_there {r} h k l z d =
       let size = size_there in
       let next : at + 1 + h.body ≡ at + length (record_bytes r) = omega arith in
-      let kind : shape_of (get_or s at 0) ≡ some h = ap shape_of (ap (λ (m : ℕ). get_or s m 0) (omega arith) ∙ byte_there 0) ∙ k in
+      let kind : shape_of (get_or s at 0) ≡ Some h = ap shape_of (ap (λ (m : ℕ). get_or s m 0) (omega arith) ∙ byte_there 0) ∙ k in
       at_record s at (omega arith) kind (omega arith)
       ∙ ap (λ (q : Record). done (stands q (at + 1 + h.body))) d
       ∙ ap (λ (n : ℕ). done (stands r n)) next
 
-abbrev shape : Form → ℕ → ℕ → Shape
+abbrev shape : Form → ℕ → ℕ → Outline
 shape f body operands = record { form = f; body = body; operands = operands }
 
 -- a kind with this high digit does not stand alone

@@ -3,13 +3,14 @@ use Prim.Native.Nat.{ℕ, ◌+◌, ◌-◌, ◌≤◌, ◌<◌}
 use mathlib.Core.Path.{◌≡◌, refl, subst}
 use mathlib.Core.Bool.{Bool, true, false}
 use mathlib.Core.List.{List}
-use mathlib.Core.Option.{Option, none, some}
+use Rattle.std.specs.Prelude.{Option, None, Some}
 use lib.ListN.{length, get_or}
 use lib.Dec.{leb}
 use borrow.Author.Tests.{leb-true, leb-false, le-leb, lt-leb}
 use Rattle.basics.specs.Choice.{pick}
 use Rattle.basics.specs.Outcome.{Outcome, done, refused}
-use Rattle.records.specs.Kinds.{Shape, shape_of}
+use Rattle.records.specs.Kinds.{shape_of}
+use Rattle.records.specs.declared.kinds.Outline.{Outline}
 use Rattle.records.specs.Records.{Standing, stands, over, record_at, bodied, decode_at}
 
 module _ (s : List ℕ) (at : ℕ) where
@@ -18,11 +19,11 @@ module _ (s : List ℕ) (at : ℕ) where
   at_end h = rw (le-leb (length s) at h)
 
   module _ (inside : at < length s) where
-    pub at_unknown : shape_of (get_or s at 0) ≡ none → record_at s at ≡ refused 4 at
+    pub at_unknown : shape_of (get_or s at 0) ≡ None → record_at s at ≡ refused 4 at
     unfolding record_at
     at_unknown e = rw (lt-leb (length s) at inside, e)
 
-    module _ {h : Shape} (known : shape_of (get_or s at 0) ≡ some h) where
+    module _ {h : Outline} (known : shape_of (get_or s at 0) ≡ Some h) where
       pub at_cut : length s - at ≤ h.body → record_at s at ≡ refused 2 at
       unfolding record_at
       at_cut l = rw (lt-leb (length s) at inside, known, le-leb (length s - at) h.body l)
@@ -41,9 +42,9 @@ module _ (s : List ℕ) (at : ℕ) where
   unfolding record_at
   stops = ended (leb (length s) at) refl
     where
-      known : (o : Option Shape) → at < length s → Stops (bodied s at o)
-      known none l = (refl, l)
-      known (some h) l = cut (leb (length s - at) h.body)
+      known : (o : Option Outline) → at < length s → Stops (bodied s at o)
+      known None l = (refl, l)
+      known (Some h) l = cut (leb (length s - at) h.body)
         where
           cut : (b : Bool) → Stops (pick b (refused 2 at) (done (stands (decode_at h.form s at) (at + 1 + h.body))))
           cut true = (refl, l)

@@ -1,23 +1,16 @@
 -- Document 01's table of kinds: what a kind byte says of the record that it begins.
-use Rattle.std.specs.Prelude.{ℕ, ◌/◌, Bool, true, false, eqb}
-use Rattle.std.proofs.Math.Option.{Option, none, some}
+use Rattle.std.specs.Prelude.{ℕ, ◌/◌, Bool, true, false, eqb, Option, None, Some}
 use Rattle.basics.specs.Choice.{pick}
 use Rattle.records.specs.declared.kinds.Form.{Form}
 use Rattle.records.specs.declared.kinds.Form.TheVariants as form
 use Rattle.records.specs.declared.kinds.Outline.{Outline}
-use Rattle.records.specs.declared.kinds.Outline.TheVariants as outline
 
 -- the form of a record, the length of its body and the count of its operands
-pub record Shape : Type 0 where
-  pub form : Form
-  pub body : ℕ
-  pub operands : ℕ
-
-abbrev pub shaped : Form → ℕ → ℕ → Option Shape
-shaped f body operands = some (record { form = f; body = body; operands = operands })
+abbrev pub shaped : Form → ℕ → ℕ → Option Outline
+shaped f body operands = Some (record { form = f; body = body; operands = operands })
 
 -- the kinds that stand alone, and then the sixteen kinds of each of the high digits 2 to 5; no other is known
-unfoldable pub shape_of : ℕ → Option Shape
+unfoldable pub shape_of : ℕ → Option Outline
 shape_of k =
     pick (eqb k 0x01) (shaped form.StaticWidth 1 1)
     (pick (eqb k 0x02) (shaped form.DynamicWidth 2 2)
@@ -28,12 +21,7 @@ shape_of k =
     (pick (eqb (k / 16) 3) (shaped form.AngledGate 9 1)
     (pick (eqb (k / 16) 4) (shaped form.TwoLineGate 2 2)
     (pick (eqb (k / 16) 5) (shaped form.AngledTwoLineGate 10 2)
-    none))))))))
-
--- what the code answers of a kind
-abbrev pub outlined : Outline → Option Shape
-outlined (outline.Body f body operands) = shaped f body operands
-outlined outline.Unknown = none
+    None))))))))
 
 -- resets, measurements and gates are instructions
 abbrev pub instruction_form : Form → Bool

@@ -1,9 +1,9 @@
 -- The record that stands at a place of a circuit or of a pair list.
-use Rattle.std.specs.Prelude.{ℕ, ◌+◌, ◌-◌, List, length, get_or, leb}
-use Rattle.std.proofs.Math.Option.{Option, none, some}
+use Rattle.std.specs.Prelude.{ℕ, ◌+◌, ◌-◌, List, length, get_or, leb, Option, None, Some, Result, Ok, Err}
 use Rattle.basics.specs.Choice.{pick}
 use Rattle.basics.specs.Outcome.{Outcome, done, refused}
-use Rattle.records.specs.Kinds.{Shape, shape_of}
+use Rattle.records.specs.Kinds.{shape_of}
+use Rattle.records.specs.declared.kinds.Outline.{Outline}
 use Rattle.records.specs.declared.numbers.Angle.{Angle}
 use Rattle.records.specs.declared.numbers.Bit.{Bit}
 use Rattle.records.specs.declared.numbers.Line.{Line}
@@ -11,8 +11,8 @@ use Rattle.records.specs.declared.numbers.Wire.{Wire}
 use Rattle.records.specs.declared.instructions.Record.{Record}
 use Rattle.records.specs.declared.instructions.Record.TheVariants.{StaticWidth, DynamicWidth, Step, Reuse}
 use Rattle.records.specs.declared.instructions.Instruction.TheVariants.{Reset, Measurement, Gate, AngledGate, TwoLineGate, AngledTwoLineGate}
-use Rattle.records.specs.declared.answers.Answer.{Answer}
-use Rattle.records.specs.declared.answers.Answer.TheVariants as answer
+use Rattle.records.specs.declared.refusals.Refusal.{Refusal}
+use Rattle.records.specs.Refusals.{refusal_of}
 use Rattle.records.specs.declared.kinds.Form.{Form}
 use Rattle.records.specs.declared.kinds.Form.TheVariants as form
 
@@ -58,17 +58,17 @@ pub data Standing : Type 0 where
   over : Standing
 
 -- an unknown kind is 4; a body that runs past the end is 2
-abbrev pub bodied : List ℕ → ℕ → Option Shape → Outcome Standing
-bodied s at none = refused 4 at
-bodied s at (some h) =
+abbrev pub bodied : List ℕ → ℕ → Option Outline → Outcome Standing
+bodied s at None = refused 4 at
+bodied s at (Some h) =
     pick (leb (length s - at) h.body) (refused 2 at) (done (stands (decode_at h.form s at) (at + 1 + h.body)))
 
 -- the record at a place; at or past the end is the end
 unfoldable pub record_at : List ℕ → ℕ → Outcome Standing
 record_at s at = pick (leb (length s) at) (done over) (bodied s at (shape_of (get_or s at 0)))
 
--- what the code answers at a place
-abbrev pub answered : Answer → Outcome Standing
-answered (answer.Read item next) = done (stands item next)
-answered (answer.Refused r) = refused r.number r.place
-answered answer.End = done over
+-- what the code answers at a place: a record and the place after it, nothing more, or a refusal
+abbrev pub answered : Result (Option (Record × ℕ)) Refusal → Outcome Standing
+answered (Ok (Some (item, next))) = done (stands item next)
+answered (Ok None) = done over
+answered (Err r) = refusal_of r

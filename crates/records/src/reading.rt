@@ -2,10 +2,10 @@
 ghost use Rattle.std.specs.Prelude.{◌≡◌, ◌+◌, ◌≤◌, get_or, length};
 ghost use Rattle.records.specs.Records.{angle_at, decode_at, record_at, answered};
 
-use crate::answers::{Answer, Refusal};
 use crate::instructions::{Instruction, Record};
-use crate::kinds::{Form, Outline, shape};
+use crate::kinds::{Form, shape};
 use crate::numbers::{Angle, Bit, Line, Wire};
+use crate::refusals::{Cause, Refusal};
 
 // A byte of a record by its distance from the record's place; 0 past the end.
 fn byte_at(s: &[u8], at: usize, distance: usize) -> u8
@@ -98,30 +98,18 @@ fn decode(form: Form, s: &[u8], at: usize) -> Record
     }
 }
 
-// The record at a place: an unknown kind is 4, a cut body 2, and at or past the end is the end.
-pub fn record_at(s: &[u8], at: usize) -> Answer
+// The record at a place and the place after it, or nothing at or past the end. An unknown kind is 4, a cut body 2.
+pub fn record_at(s: &[u8], at: usize) -> Result<Option<(Record, usize)>, Refusal>
     ensures { answered result ≡ record_at s.now at }
 {
     if s.len() <= at {
-        return Answer::End;
+        return Ok(None);
     }
-    match shape(s[at]) {
-        Outline::Unknown => Answer::Refused(Refusal {
-            number: 4,
-            place: at,
-        }),
-        Outline::Body(form, length, _) => {
-            if s.len() - at <= length {
-                return Answer::Refused(Refusal {
-                    number: 2,
-                    place: at,
-                });
-            }
-            let item = decode(form, s, at);
-            Answer::Read {
-                item: item,
-                next: at + 1 + length,
-            }
-        }
+    let Some(outline) = shape(s[at]) else {
+        return Err(Cause::NoInstruction.at(at));
+    };
+    if s.len() - at <= outline.body {
+        return Err(Cause::CutBody.at(at));
     }
+    Ok(Some((decode(outline.form, s, at), at + 1 + outline.body)))
 }

@@ -1,4 +1,4 @@
--- What each call on a table settles, and what the code's answers say of it.
+-- What each call on a table settles.
 use Rattle.std.specs.Prelude.{ℕ, Bool, true, false, ◌||◌, eqb, ltb, leb}
 use Rattle.basics.specs.Choice.{pick}
 use Rattle.basics.specs.Outcome.{Outcome, done, refused, handing}
@@ -7,13 +7,6 @@ use Rattle.table.specs.Limits.{most_wires}
 use Rattle.table.specs.Marks.{counts, marks_of}
 use Rattle.table.specs.Rule.{accepted, accepted_clean}
 use Rattle.table.specs.declared.tables.Table.{Table}
-use Rattle.table.specs.declared.answers.Offered.{Offered}
-use Rattle.table.specs.declared.answers.Permission.{Permission}
-use Rattle.table.specs.declared.answers.Permission.TheVariants as permission
-use Rattle.table.specs.declared.answers.Reply.{Reply}
-use Rattle.table.specs.declared.answers.Reply.TheVariants as reply
-use Rattle.table.specs.declared.answers.Counted.{Counted}
-use Rattle.table.specs.declared.answers.Counted.TheVariants as counted
 
 -- width 0 or above the most wires
 abbrev pub wrong_width : Table → Bool
@@ -52,23 +45,3 @@ count_of t = pick (wrong_width t) (refused 27 0) (done (marks_of t))
 -- a pair's score: how many marks count after the offer; where that is refused, so is the score
 abbrev pub score_of : Table → ℕ → ℕ → Outcome ℕ
 score_of t lender taker = handing (marks_of (accepted t lender taker)) (judged t lender taker)
-
--- what the code answers: yes, no, or refused
-abbrev pub permitted : Permission → Outcome Bool
-permitted permission.Yes = done true
-permitted permission.No = done false
-permitted (permission.Refused r) = refused r.number r.place
-
--- taken, or refused
-abbrev pub replied : Reply → Outcome (Unit {0})
-replied reply.Taken = done tt
-replied (reply.Refused r) = refused r.number r.place
-
--- taken, with the table after the offer, or refused
-abbrev pub settled : Offered → Outcome Table
-settled r = handing r.table (replied r.reply)
-
--- a count, or refused
-abbrev pub tallied : Counted → Outcome ℕ
-tallied (counted.Marks n) = done n
-tallied (counted.Refused r) = refused r.number r.place

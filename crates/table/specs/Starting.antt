@@ -1,6 +1,6 @@
 -- The table at the start, in rows of marks, and the pass that makes it.
 use Rattle.std.specs.Prelude.{ℕ, Bool, ◌&&◌, ◌||◌, List, [], ◌∷◌, ltb, eqb, get_or, set, replicate}
-use Rattle.basics.specs.Outcome.{Outcome, done, refused, handing}
+use Rattle.basics.specs.Outcome.{Outcome, done, refused}
 use Rattle.bits.specs.Bits.{bit, pack, each}
 use Rattle.records.specs.declared.instructions.Instruction.{Instruction}
 use Rattle.circuits.specs.Reading.{Static, read_circuit}
@@ -10,9 +10,6 @@ use Rattle.precedence.specs.Starts.{Sets, after, start_of}
 use Rattle.table.specs.Limits.{most_wires}
 use Rattle.table.specs.Marks.{free}
 use Rattle.table.specs.declared.tables.Table.{Table}
-use Rattle.table.specs.declared.answers.Start.{Start}
-use Rattle.table.specs.declared.answers.Start.TheVariants as answer
-use Rattle.table.specs.declared.answers.Started.{Started}
 
 -- the circuit's table: "l may lend to t" is yes exactly where t's reset does not lead to l's measurement; no wire is used
 unfoldable pub start_table : Static → Table
@@ -30,14 +27,6 @@ table_at_start (refused n p) = refused n p
 
 abbrev pub started : List ℕ → Outcome Table
 started s = table_at_start (read_circuit s)
-
--- what the code answers: done, with the circuit's table, or refused
-abbrev pub replied_at_start : Start → Outcome (Unit {0})
-replied_at_start answer.Done = done tt
-replied_at_start (answer.Refused r) = refused r.number r.place
-
-abbrev pub started_of : Started → Outcome Table
-started_of r = handing r.table (replied_at_start r.answer)
 
 -- The pass, in rows
 

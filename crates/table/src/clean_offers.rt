@@ -1,15 +1,14 @@
 // An offer to a table in which every mark that is set counts, as it is in each table that took an offer.
 ghost use Rattle.std.specs.Prelude.{◌≡◌, ◌<◌, get_or};
-ghost use Rattle.basics.specs.Outcome.{beside};
+ghost use Rattle.records.specs.Refusals.{outcome_of};
 ghost use Rattle.table.specs.Limits.{most_wires};
 ghost use Rattle.table.specs.Rule.{accepted_clean};
-ghost use Rattle.table.specs.Calls.{offered_clean, settled};
+ghost use Rattle.table.specs.Calls.{offered_clean};
 
-use crate::answers::{Offered, Reply};
 use crate::offering::judge;
 use crate::rows::{row_left, use_wire};
 use crate::tables::{Row, Table};
-use records::Wire;
+use records::{Refusal, Wire};
 
 // A wire's row. It is read by a function of its own, so that the compiler copies no table for it.
 fn row_of(table: Table, wire: Wire) -> Row
@@ -41,21 +40,9 @@ fn accept_clean(table: Table, lender: Wire, taker: Wire) -> Table
 }
 
 // What `offer` answers to such a table, in less time.
-pub fn offer_clean(table: Table, lender: Wire, taker: Wire) -> Offered
-    ensures { (settled result ≡ offered_clean table lender.0 taker.0) × (result.table ≡ beside table (offered_clean table lender.0 taker.0)) }
+pub fn offer_clean(table: Table, lender: Wire, taker: Wire) -> Result<Table, Refusal>
+    ensures { outcome_of result ≡ offered_clean table lender.0 taker.0 }
 {
-    let reply = judge(table, lender, taker);
-    match reply {
-        Reply::Taken => {
-            let after = accept_clean(table, lender, taker);
-            Offered {
-                reply: Reply::Taken,
-                table: after,
-            }
-        }
-        Reply::Refused(refusal) => Offered {
-            reply: Reply::Refused(refusal),
-            table,
-        },
-    }
+    judge(table, lender, taker)?;
+    Ok(accept_clean(table, lender, taker))
 }

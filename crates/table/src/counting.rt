@@ -1,13 +1,13 @@
 // How many marks count, now or after an offer.
 ghost use Rattle.std.specs.Prelude.{◌≡◌};
+ghost use Rattle.records.specs.Refusals.{outcome_of};
 ghost use Rattle.table.specs.Marks.{marks_of, mark_rows};
-ghost use Rattle.table.specs.Calls.{count_of, score_of, tallied};
+ghost use Rattle.table.specs.Calls.{count_of, score_of};
 
-use crate::answers::{Counted, Reply};
 use crate::offering::{accept, judge, wrong_width};
 use crate::rows::{counting, rows_below, unused};
 use crate::tables::{Row, Table};
-use records::{Refusal, Wire};
+use records::{Cause, Refusal, Wire};
 
 fn marks_of(table: Table) -> u32
     ensures { result ≡ marks_of table }
@@ -37,25 +37,19 @@ pub fn all_marks(table: Table) -> [Row; Table::ROWS]
 }
 
 // How many marks count.
-pub fn count(table: Table) -> Counted
-    ensures { tallied result ≡ count_of table }
+pub fn count(table: Table) -> Result<u32, Refusal>
+    ensures { outcome_of result ≡ count_of table }
 {
     if wrong_width(table) {
-        return Counted::Refused(Refusal {
-            number: 27,
-            place: 0,
-        });
+        return Err(Cause::WrongTableWidth.at(0));
     }
-    Counted::Marks(marks_of(table))
+    Ok(marks_of(table))
 }
 
 // How many marks are left after accepting a pair; a pair that is not yes is refused as its offer would be.
-pub fn score(table: Table, lender: Wire, taker: Wire) -> Counted
-    ensures { tallied result ≡ score_of table lender.0 taker.0 }
+pub fn score(table: Table, lender: Wire, taker: Wire) -> Result<u32, Refusal>
+    ensures { outcome_of result ≡ score_of table lender.0 taker.0 }
 {
-    let reply = judge(table, lender, taker);
-    match reply {
-        Reply::Taken => Counted::Marks(marks_of(accept(table, lender, taker))),
-        Reply::Refused(refusal) => Counted::Refused(refusal),
-    }
+    judge(table, lender, taker)?;
+    Ok(marks_of(accept(table, lender, taker)))
 }

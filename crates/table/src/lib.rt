@@ -1,7 +1,6 @@
 // The table of possible reuse pairs: which wire may lend to which, what an offer makes of it, and its bytes.
 #![tactic(auto)]
 
-pub mod answers;
 mod clean_offers;
 mod counting;
 mod offering;
@@ -10,7 +9,6 @@ mod saving;
 mod starting;
 pub mod tables;
 
-pub use answers::{Counted, Offered, Permission, Reply, Start, Started};
 pub use clean_offers::offer_clean;
 pub use counting::{all_marks, count, score};
 pub use offering::{may, offer};

@@ -1,17 +1,16 @@
 // Whether a wire may lend to another, and what an offer makes of the table.
 ghost use Rattle.std.specs.Prelude.{◌≡◌};
-ghost use Rattle.basics.specs.Outcome.{beside, refused};
+ghost use Rattle.records.specs.Refusals.{outcome_of};
 ghost use Rattle.bits.specs.Bits.{pack};
 ghost use Rattle.table.specs.Limits.{most_wires};
 ghost use Rattle.table.specs.Marks.{counts};
 ghost use Rattle.table.specs.Rule.{accepted};
 ghost use Rattle.table.specs.Changes.{change_of};
-ghost use Rattle.table.specs.Calls.{wrong_width, outside_width, may_lend, judged, offered, permitted, replied, settled};
+ghost use Rattle.table.specs.Calls.{wrong_width, outside_width, may_lend, judged, offered};
 
-use crate::answers::{Offered, Permission, Reply};
 use crate::rows::{Change, counting, has, row_after, rows_below, unused, use_wire, without};
 use crate::tables::{Row, Table};
-use records::{Refusal, Wire};
+use records::{Cause, Refusal, Wire};
 
 // The marks of one lender's row that count.
 pub fn marks(table: Table, lender: Wire) -> Row
@@ -48,49 +47,35 @@ fn outside(table: Table, lender: Wire, taker: Wire) -> bool
 }
 
 // Whether the lender may lend to the taker; no for numbers at or above the width.
-pub fn may(table: Table, lender: Wire, taker: Wire) -> Permission
-    ensures { permitted result ≡ may_lend table lender.0 taker.0 }
+pub fn may(table: Table, lender: Wire, taker: Wire) -> Result<bool, Refusal>
+    ensures { outcome_of result ≡ may_lend table lender.0 taker.0 }
 {
     if wrong_width(table) {
-        return Permission::Refused(Refusal {
-            number: 27,
-            place: 0,
-        });
+        return Err(Cause::WrongTableWidth.at(0));
     }
-    if is_yes(table, lender, taker) {
-        Permission::Yes
-    } else {
-        Permission::No
-    }
+    Ok(is_yes(table, lender, taker))
 }
 
-fn refuse(number: u8) -> Reply
-    ensures { replied result ≡ refused number 0 }
-{
-    Reply::Refused(Refusal { number, place: 0 })
-}
-
-// What becomes of an offer.
-pub fn judge(table: Table, lender: Wire, taker: Wire) -> Reply
-    ensures { replied result ≡ judged table lender.0 taker.0 }
+// What becomes of an offer: it is taken, or refused.
+pub fn judge(table: Table, lender: Wire, taker: Wire) -> Result<(), Refusal>
+    ensures { outcome_of result ≡ judged table lender.0 taker.0 }
 {
     if wrong_width(table) {
-        return refuse(27);
+        return Err(Cause::WrongTableWidth.at(0));
     }
     if outside(table, lender, taker) {
-        return refuse(20);
+        return Err(Cause::PairOutside.at(0));
     }
     if has(table.lending, lender) {
-        return refuse(21);
+        return Err(Cause::LenderAlreadyLends.at(0));
     }
     if has(table.taking, taker) {
-        return refuse(22);
+        return Err(Cause::TakerAlreadyTakes.at(0));
     }
-    if is_yes(table, lender, taker) {
-        Reply::Taken
-    } else {
-        refuse(23)
+    if !is_yes(table, lender, taker) {
+        return Err(Cause::ClosesLoop.at(0));
     }
+    Ok(())
 }
 
 // What an offer is for every row.
@@ -125,22 +110,10 @@ pub fn accept(table: Table, lender: Wire, taker: Wire) -> Table
     }
 }
 
-// Takes the offer, with the table after it, or refuses it and hands the same table back.
-pub fn offer(table: Table, lender: Wire, taker: Wire) -> Offered
-    ensures { (settled result ≡ offered table lender.0 taker.0) × (result.table ≡ beside table (offered table lender.0 taker.0)) }
+// The table after the offer, or why the offer is refused.
+pub fn offer(table: Table, lender: Wire, taker: Wire) -> Result<Table, Refusal>
+    ensures { outcome_of result ≡ offered table lender.0 taker.0 }
 {
-    let reply = judge(table, lender, taker);
-    match reply {
-        Reply::Taken => {
-            let after = accept(table, lender, taker);
-            Offered {
-                reply: Reply::Taken,
-                table: after,
-            }
-        }
-        Reply::Refused(refusal) => Offered {
-            reply: Reply::Refused(refusal),
-            table,
-        },
-    }
+    judge(table, lender, taker)?;
+    Ok(accept(table, lender, taker))
 }

@@ -1,22 +1,20 @@
 // The table at the start: one pass over a circuit's instructions with a set of resets for each wire.
 ghost use Rattle.std.specs.Prelude.{◌≡◌, ◌||◌, eqb, get_or, set};
-ghost use Rattle.basics.specs.Outcome.{beside};
 ghost use Rattle.bits.specs.Bits.{bit, pack};
 ghost use Rattle.circuits.specs.Limits.{most_instructions, header_length};
 ghost use Rattle.circuits.specs.Stepping.{Steps};
 ghost use Rattle.circuits.specs.Reading.{read_circuit};
 ghost use Rattle.circuits.specs.Rewriting.{steps_of};
+ghost use Rattle.records.specs.Refusals.{outcome_of};
 ghost use Rattle.records.specs.Records.{line};
 ghost use Rattle.circuits.specs.declared.sketching.Sketch.TheVariants as sketch;
 ghost use Rattle.table.specs.Limits.{most_wires};
-ghost use Rattle.table.specs.Marks.{empty_table};
-ghost use Rattle.table.specs.Starting.{no_rows, rows_sketched, rows_pass, start_row, start_from, started, started_of};
+ghost use Rattle.table.specs.Starting.{no_rows, rows_sketched, rows_pass, start_row, start_from, started};
 
-use crate::answers::{Start, Started};
 use crate::rows::unused;
 use crate::tables::{Row, Table};
-use circuits::{Circuit, Glimpse, Reading, Sketch, read, sketch_at, wire_of};
-use records::Wire;
+use circuits::{Circuit, Sketch, read, sketch_at, wire_of};
+use records::{Refusal, Wire};
 
 // For each wire the wires whose resets lead to what the pass has come by on it.
 #[derive(Clone, Copy)]
@@ -86,17 +84,13 @@ fn all_sets(circuit: &[u8]) -> Sets
     let mut rows = [0; Table::ROWS];
     let mut at = Circuit::HEADER;
     let mut left = Circuit::MOST_INSTRUCTIONS;
-    loop {
-        match sketch_at(circuit, at, left) {
-            Glimpse::End => return Sets { rows },
-            Glimpse::Refused(_) => return Sets { rows },
-            Glimpse::Step { sketch, next } => {
-                join_sets(&mut rows, sketch);
-                at = next;
-                left -= 1;
-            }
-        }
+    // A valid circuit has no fault.
+    while let Some((sketch, next)) = sketch_at(circuit, at, left).unwrap_or(None) {
+        join_sets(&mut rows, sketch);
+        at = next;
+        left -= 1;
     }
+    Sets { rows }
 }
 
 // A lender's row: every wire whose reset does not lead to the lender's measurement.
@@ -126,21 +120,10 @@ pub fn table_from(width: u8, sets: Sets) -> Table
     }
 }
 
-// The table of a circuit, or the reader's refusal with the table of no wires beside it.
-pub fn start(circuit: &[u8]) -> Started
-    ensures { (started_of result ≡ started circuit.now) × (result.table ≡ beside empty_table (started circuit.now)) }
+// The table of a circuit, or the reader's refusal.
+pub fn start(circuit: &[u8]) -> Result<Table, Refusal>
+    ensures { outcome_of result ≡ started circuit.now }
 {
-    match read(circuit) {
-        Reading::Refused(r) => Started {
-            answer: Start::Refused(r),
-            table: Table::empty(),
-        },
-        Reading::Valid(valid) => {
-            let table = table_from(valid.width, all_sets(circuit));
-            Started {
-                answer: Start::Done,
-                table,
-            }
-        }
-    }
+    let valid = read(circuit)?;
+    Ok(table_from(valid.width, all_sets(circuit)))
 }

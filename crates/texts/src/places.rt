@@ -1,21 +1,19 @@
 // What is printed of what stands at a place.
 ghost use Rattle.std.specs.Prelude.{◌≡◌};
 ghost use Rattle.writing.specs.Writing.{Placed};
+ghost use Rattle.records.specs.Refusals.{number_of};
 ghost use Rattle.records.specs.Records.{record_at};
 ghost use Rattle.texts.specs.Lines.{awaited, text_at};
 
 use crate::lines::put_line;
 use crate::refusals::put_refusal;
-use records::{Answer, record_at};
-
-// Document 01's number for a body that runs past the end.
-const CUT: u8 = 2;
+use records::{Cause, record_at};
 
 // Whether a refusal is of a body that is cut where more may follow.
-fn is_awaited(number: u8, last: bool) -> bool
-    ensures { result ≡ awaited number last }
+fn is_awaited(cause: Cause, last: bool) -> bool
+    ensures { result ≡ awaited (number_of cause) last }
 {
-    number == CUT && !last
+    matches!(cause, Cause::CutBody) && !last
 }
 
 // Puts what is printed of a place of `piece` into a buffer as `put_bytes` puts bytes. The piece is a part of an input, `place` is
@@ -24,14 +22,13 @@ pub fn put_at(out: &mut [u8], to: usize, piece: &[u8], at: usize, place: usize, 
     ensures { Placed out.old to (text_at place last (record_at piece.now at)) out.new result }
 {
     match record_at(piece, at) {
-        Answer::Read { item, next: _ } => put_line(out, to, place, item),
-        Answer::Refused(refusal) => {
-            let number = refusal.number;
-            if is_awaited(number, last) {
+        Ok(None) => to,
+        Ok(Some((record, _))) => put_line(out, to, place, record),
+        Err(refusal) => {
+            if is_awaited(refusal.cause, last) {
                 return to;
             }
-            put_refusal(out, to, number, place)
+            put_refusal(out, to, refusal.cause.number(), place)
         }
-        Answer::End => to,
     }
 }

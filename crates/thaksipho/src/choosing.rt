@@ -5,8 +5,8 @@ ghost use Rattle.choosers.specs.Results.{Sized, greedy_of};
 ghost use Rattle.thaksipho.specs.Lists.{Listed};
 
 use crate::words::refusal_word;
-use choosers::{Choice, Rounds};
-use records::Refusal;
+use choosers::Rounds;
+use records::Cause;
 
 // Hands a list back with the number of the trials and of its pairs, or 31.
 fn hand_list(rounds: Rounds, out: &mut [u8]) -> u64
@@ -16,10 +16,7 @@ fn hand_list(rounds: Rounds, out: &mut [u8]) -> u64
     let list = rounds.list;
     let count = list.length;
     if out.len() < count * lists::PAIR {
-        return refusal_word(Refusal {
-            number: 31,
-            place: count * lists::PAIR,
-        });
+        return refusal_word(Cause::NoRoom.at(count * lists::PAIR));
     }
     lists::put_list(out, 0, list);
     rounds.trials as u64 * 256 + count as u64
@@ -30,11 +27,8 @@ fn hand_list(rounds: Rounds, out: &mut [u8]) -> u64
 pub extern "C" fn thaksipho_greedy(table: &[u8], out: &mut [u8]) -> u64
     ensures { Listed out.old (greedy_of (table_of table.now)) result out.new }
 {
-    let result = choosers::greedy(table::table_of(table));
-    let choice = result.choice;
-    let rounds = result.rounds;
-    match choice {
-        Choice::Made => hand_list(rounds, out),
-        Choice::Refused(r) => refusal_word(r),
+    match choosers::greedy(table::table_of(table)) {
+        Ok(rounds) => hand_list(rounds, out),
+        Err(r) => refusal_word(r),
     }
 }

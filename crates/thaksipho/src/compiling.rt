@@ -4,7 +4,7 @@ ghost use Rattle.writer.specs.Compiling.{compiled, bytes_of};
 ghost use Rattle.thaksipho.specs.Words.{Worded};
 
 use crate::words::refusal_word;
-use writer::{Compiling, compile};
+use writer::compile;
 
 // Writes the dynamic circuit of a static circuit and a pair list. The value: how many bytes were written.
 #[unsafe(no_mangle)]
@@ -12,7 +12,7 @@ pub extern "C" fn thaksipho_compile(circuit: &[u8], pairs: &[u8], out: &mut [u8]
     ensures { Worded out.old (bytes_of (compiled circuit.now pairs.now (length out.old))) result out.new }
 {
     match compile(circuit, pairs, out) {
-        Compiling::Done(counts) => counts.bytes as u64,
-        Compiling::Refused(r) => refusal_word(r),
+        Ok(counts) => counts.bytes as u64,
+        Err(r) => refusal_word(r),
     }
 }

@@ -13,7 +13,7 @@ ghost use Rattle.circuits.specs.Rewriting.{rewritten};
 ghost use Rattle.thaksipho.specs.Words.{word, circuit_value, Worded};
 
 use crate::words::refusal_word;
-use circuits::{Reading, Rewriting, read, rewrite};
+use circuits::{read, rewrite};
 
 // Reads a static circuit. The value: instructions * 256 + wires.
 #[unsafe(no_mangle)]
@@ -21,8 +21,8 @@ pub extern "C" fn thaksipho_read(circuit: &[u8]) -> u64
     ensures { result ≡ word (circuit_value (summary (read_circuit circuit.now))) }
 {
     match read(circuit) {
-        Reading::Valid(c) => c.instructions as u64 * 256 + c.width as u64,
-        Reading::Refused(r) => refusal_word(r),
+        Ok(c) => c.instructions as u64 * 256 + c.width as u64,
+        Err(r) => refusal_word(r),
     }
 }
 
@@ -32,7 +32,7 @@ pub extern "C" fn thaksipho_rewrite(circuit: &[u8], out: &mut [u8]) -> u64
     ensures { Worded out.old (rewritten circuit.now (length out.old)) result out.new }
 {
     match rewrite(circuit, out) {
-        Rewriting::Done(n) => n as u64,
-        Rewriting::Refused(r) => refusal_word(r),
+        Ok(n) => n as u64,
+        Err(r) => refusal_word(r),
     }
 }

@@ -3,24 +3,21 @@ ghost use Rattle.std.specs.Prelude.{◌≡◌, length};
 ghost use Rattle.basics.specs.Outcome.{done};
 ghost use Rattle.table.specs.TableBytes.{table_of};
 ghost use Rattle.table.specs.Calls.{may_lend, offered, count_of, score_of};
-ghost use Rattle.table.specs.Calls as calls;
+ghost use Rattle.records.specs.Refusals.{outcome_of};
 ghost use Rattle.table.specs.Starting.{started};
 ghost use Rattle.thaksipho.specs.Words.{word, flag, Worded};
 ghost use Rattle.thaksipho.specs.Tables.{table_written, Small};
 
 use crate::words::refusal_word;
-use records::{Refusal, Wire};
-use table::{Counted, Permission, Reply, Start, Table};
+use records::{Cause, Refusal, Wire};
+use table::Table;
 
 // Hands a table back, or 31.
 fn hand_back(table: Table, out: &mut [u8]) -> u64
     ensures { Worded out.old (table_written (length out.old) (done table)) result out.new }
 {
     if out.len() < Table::BYTES {
-        return refusal_word(Refusal {
-            number: 31,
-            place: Table::BYTES,
-        });
+        return refusal_word(Cause::NoRoom.at(Table::BYTES));
     }
     table::write_table(table, out, 0) as u64
 }
@@ -30,12 +27,9 @@ fn hand_back(table: Table, out: &mut [u8]) -> u64
 pub extern "C" fn thaksipho_start(circuit: &[u8], out: &mut [u8]) -> u64
     ensures { Worded out.old (table_written (length out.old) (started circuit.now)) result out.new }
 {
-    let result = table::start(circuit);
-    let answer = result.answer;
-    let table = result.table;
-    match answer {
-        Start::Done => hand_back(table, out),
-        Start::Refused(r) => refusal_word(r),
+    match table::start(circuit) {
+        Ok(table) => hand_back(table, out),
+        Err(r) => refusal_word(r),
     }
 }
 
@@ -45,9 +39,8 @@ pub extern "C" fn thaksipho_may(table: &[u8], lender: u8, taker: u8) -> u64
     ensures { result ≡ word (flag (may_lend (table_of table.now) lender taker)) }
 {
     match table::may(table::table_of(table), Wire(lender), Wire(taker)) {
-        Permission::Yes => 1,
-        Permission::No => 0,
-        Permission::Refused(r) => refusal_word(r),
+        Ok(yes) => yes as u64,
+        Err(r) => refusal_word(r),
     }
 }
 
@@ -56,23 +49,20 @@ pub extern "C" fn thaksipho_may(table: &[u8], lender: u8, taker: u8) -> u64
 pub extern "C" fn thaksipho_offer(table: &[u8], lender: u8, taker: u8, out: &mut [u8]) -> u64
     ensures { Worded out.old (table_written (length out.old) (offered (table_of table.now) lender taker)) result out.new }
 {
-    let result = table::offer(table::table_of(table), Wire(lender), Wire(taker));
-    let reply = result.reply;
-    let after = result.table;
-    match reply {
-        Reply::Taken => hand_back(after, out),
-        Reply::Refused(r) => refusal_word(r),
+    match table::offer(table::table_of(table), Wire(lender), Wire(taker)) {
+        Ok(after) => hand_back(after, out),
+        Err(r) => refusal_word(r),
     }
 }
 
 // A count as a word.
-fn count_word(counted: Counted) -> u64
-    requires { Small (calls.tallied counted) }
-    ensures { result ≡ word (calls.tallied counted) }
+fn count_word(counted: Result<u32, Refusal>) -> u64
+    requires { Small (outcome_of counted) }
+    ensures { result ≡ word (outcome_of counted) }
 {
     match counted {
-        Counted::Marks(n) => n as u64,
-        Counted::Refused(r) => refusal_word(r),
+        Ok(n) => n as u64,
+        Err(r) => refusal_word(r),
     }
 }
 

@@ -7,7 +7,7 @@ ghost use Rattle.std.specs.Prelude.{◌≡◌};
 ghost use Rattle.records.specs.Records.{record_at, answered};
 ghost use Rattle.walk.specs.Walks.{place_after};
 
-use records::{Answer, record_at};
+use records::{Record, Refusal, record_at};
 
 // The circuit and a place in it.
 #[derive(Clone, Copy)]
@@ -21,9 +21,9 @@ pub fn place_after(circuit: &[u8], at: usize) -> usize
     ensures { result ≡ place_after circuit.now at }
 {
     match record_at(circuit, at) {
-        Answer::Read { item: _, next } => next,
-        Answer::Refused(_) => at,
-        Answer::End => at,
+        Ok(Some((_, next))) => next,
+        Ok(None) => at,
+        Err(_) => at,
     }
 }
 
@@ -35,7 +35,7 @@ pub fn start<'a>(circuit: &'a [u8]) -> Walk<'a>
 }
 
 // The record at the walk's place.
-pub fn here<'a>(w: Walk<'a>) -> Answer
+pub fn here<'a>(w: Walk<'a>) -> Result<Option<(Record, usize)>, Refusal>
     ensures { answered result ≡ record_at w.entry.circuit.now w.entry.at }
 {
     record_at(w.circuit, w.at)
@@ -52,7 +52,7 @@ pub fn past<'a>(w: Walk<'a>) -> Walk<'a>
 }
 
 // The first record of a circuit: a walk that is started and asked, for callers without one.
-pub fn first(circuit: &[u8]) -> Answer
+pub fn first(circuit: &[u8]) -> Result<Option<(Record, usize)>, Refusal>
     ensures { answered result ≡ record_at circuit.now 0 }
 {
     here(start(circuit))

@@ -20,10 +20,8 @@ use Rattle.table.specs.Starting.{no_rows, rows_pass, start_from, start_table}
 use Rattle.table.specs.declared.tables.Table.{Table}
 use Rattle.table.proofs.StartRows.{start_is}
 use Rattle.pairs.specs.Lending.{lenders_in, pairs_of}
-use Rattle.pairs.specs.Listing.{read_pairs, pairs_told, paired_of}
+use Rattle.pairs.specs.Listing.{read_pairs, paired}
 use Rattle.pairs.specs.declared.listing.Paired.{Paired}
-use Rattle.pairs.specs.declared.listing.Pairs.TheVariants as answer
-use Rattle.records.specs.declared.answers.Refusal.{Refusal}
 use Rattle.pairs.proofs.PairLaws.{pairs_allowed}
 use Rattle.writer.specs.Chains.{qubits}
 use Rattle.writer.specs.Outputs.{output, output_of}
@@ -34,33 +32,30 @@ use Rattle.writer.proofs.Allowed.{list_length, qubits_and_list}
 
 -- ## What the pair list's answer says
 
-answered_as : (t : Table) (o : Outcome Growing) {p : Paired} → p ≡ pairs_told t o → paired_of p.answer ≡ paired_of (pairs_told t o).answer
-answered_as t o e = ap (λ (p : Paired). paired_of p.answer) e
-
-list_refused : (t : Table) (o : Outcome Growing) {p : Paired} → p ≡ pairs_told t o → {r : Refusal} → p.answer ≡ answer.Refused r
-    → o ≡ refused r.number r.place
-list_refused t (done g) e a = absurd (not_refused (sym (ap paired_of a) ∙ answered_as t (done g) e))
-list_refused t (refused n q) e {r} a =
-    let z : refused r.number r.place ≡ refused n q = sym (ap paired_of a) ∙ answered_as t (refused n q) e in
-    let b : r.number ≡ n = cc in
-    let c : r.place ≡ q = cc in
+list_refused : (o : Outcome Growing) {number place : ℕ} → refused number place ≡ paired o → o ≡ refused number place
+list_refused (done g) e = absurd (not_refused e)
+list_refused (refused n q) {number} {place} e =
+    let a : number ≡ n = cc in
+    let b : place ≡ q = cc in
     cc
 
 -- the pairs of an accepted list, how many they are, and their lenders
-record Listed (o : Outcome Growing) (p : Paired) (count : ℕ) : Type 0 where
+record Listed (o : Outcome Growing) (p : Paired) : Type 0 where
   pub growing : Growing
   pub is : o ≡ done growing
-  pub counted : count ≡ length growing.pairs
+  pub counted : p.count ≡ length growing.pairs
   pub lenders : p.lenders.lenders ≡ lenders_in growing.pairs
 
-list_accepted : (t : Table) (o : Outcome Growing) {p : Paired} → p ≡ pairs_told t o → {n : ℕ} → p.answer ≡ answer.Accepted n → Listed o p n
-list_accepted t (done g) e {n} a = record {
-  growing = g;
-  is = refl;
-  counted = let z : done n ≡ done (length g.pairs) = sym (ap paired_of a) ∙ answered_as t (done g) e in cc;
-  lenders = ap (λ (p : Paired). p.lenders.lenders) e;
-}
-list_accepted t (refused n q) e a = absurd (not_refused (sym (answered_as t (refused n q) e) ∙ ap paired_of a))
+list_accepted : (o : Outcome Growing) (p : Paired) → done p ≡ paired o → Listed o p
+list_accepted (done g) p e =
+    let told : Paired = record { count = length g.pairs; table = g.table; lenders = record { lenders = lenders_in g.pairs } } in
+    let z : p ≡ told = cc in record {
+      growing = g;
+      is = refl;
+      counted = ap (λ (q : Paired). q.count) z;
+      lenders = ap (λ (q : Paired). q.lenders.lenders) z;
+    }
+list_accepted (refused n q) p e = absurd (not_refused (sym e))
 
 -- ## Room
 
@@ -128,27 +123,27 @@ module _ (s list : List ℕ) {told : Circuit} (a : Accepted s told) where
     compiled_qubits = qubits_and_list a.circuit wired (lenders_in g.pairs) g.pairs same allowed
 
   -- by what the code told of the list
-  module _ {t : Table} (start : t ≡ start_table a.circuit) {p : Paired} (told_of : p ≡ pairs_told t (read_pairs t list)) where
+  module _ {t : Table} (start : t ≡ start_table a.circuit) where
     from_start : {o : Outcome Growing} → read_pairs t list ≡ o → read_pairs (start_table a.circuit) list ≡ o
     from_start e = ap (λ (u : Table). read_pairs u list) (sym start) ∙ e
 
-    pub told_refused : {r : Refusal} → p.answer ≡ answer.Refused r → (room : ℕ) → compiled s list room ≡ refused r.number r.place
-    told_refused e room = pair_refused room (from_start (list_refused t (read_pairs t list) told_of e))
+    pub told_refused : {number place : ℕ} → refused number place ≡ paired (read_pairs t list) → (room : ℕ) → compiled s list room ≡ refused number place
+    told_refused e room = pair_refused room (from_start (list_refused (read_pairs t list) e))
 
-    module _ {n : ℕ} (e : p.answer ≡ answer.Accepted n) where
-      listed : Listed (read_pairs t list) p n
-      listed = list_accepted t (read_pairs t list) told_of e
+    module _ (p : Paired) (e : done p ≡ paired (read_pairs t list)) where
+      listed : Listed (read_pairs t list) p
+      listed = list_accepted (read_pairs t list) p e
 
       pub told_length : length (output_of p.lenders.lenders (read_circuit s)) ≡ length s + 1
       told_length =
           ap (λ (ls : List ℕ). length (output_of ls (read_circuit s))) listed.lenders ∙ compiled_length listed.growing (from_start listed.is)
 
       pub told_accepted : (room : ℕ)
-          → in_room room (dynamic (output_of p.lenders.lenders (read_circuit s)) (qubits p.lenders.lenders told.width) n) ≡ compiled s list room
+          → in_room room (dynamic (output_of p.lenders.lenders (read_circuit s)) (qubits p.lenders.lenders told.width) p.count) ≡ compiled s list room
       told_accepted room =
-          ap (λ (ls : List ℕ). in_room room (dynamic (output_of ls (read_circuit s)) (qubits ls told.width) n)) listed.lenders
-          ∙ ap (λ (o : Outcome Static). in_room room (dynamic (output_of lenders o) (qubits lenders told.width) n)) a.is
-          ∙ ap (λ (w : ℕ). in_room room (dynamic (output lenders a.circuit) (qubits lenders w) n)) a.width
+          ap (λ (ls : List ℕ). in_room room (dynamic (output_of ls (read_circuit s)) (qubits ls told.width) p.count)) listed.lenders
+          ∙ ap (λ (o : Outcome Static). in_room room (dynamic (output_of lenders o) (qubits lenders told.width) p.count)) a.is
+          ∙ ap (λ (w : ℕ). in_room room (dynamic (output lenders a.circuit) (qubits lenders w) p.count)) a.width
           ∙ ap (λ (k : ℕ). in_room room (dynamic (output lenders a.circuit) (qubits lenders a.circuit.width) k)) listed.counted
           ∙ sym (compiled_as listed.growing (from_start listed.is) room)
         where

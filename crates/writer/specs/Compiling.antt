@@ -11,8 +11,6 @@ use Rattle.pairs.specs.Listing.{read_pairs}
 use Rattle.writer.specs.Chains.{qubits}
 use Rattle.writer.specs.Outputs.{output}
 use Rattle.writer.specs.declared.compiling.Counts.{Counts}
-use Rattle.writer.specs.declared.compiling.Compiling.{Compiling}
-use Rattle.writer.specs.declared.compiling.Compiling.TheVariants as answer
 
 -- a dynamic circuit: its bytes, and how many qubits and pairs it has
 pub record Dynamic : Type 0 where
@@ -54,11 +52,6 @@ bytes_of (refused number place) = refused number place
 abbrev pub counts_of : Outcome Dynamic → Outcome Counts
 counts_of (done d) = done (record { bytes = length d.bytes; qubits = d.qubits; pairs = d.pairs })
 counts_of (refused number place) = refused number place
-
--- what the code answers
-abbrev pub compiling_of : Compiling → Outcome Counts
-compiling_of (answer.Done counts) = done counts
-compiling_of (answer.Refused r) = refused r.number r.place
 
 -- the call tells the counts, or its refusal, and leaves the buffer so: the bytes from its start, or all as it was
 pub record Compiled (old : List ℕ) (o : Outcome Dynamic) (told : Outcome Counts) (new : List ℕ) : Type 0 where

@@ -14,4 +14,4 @@ mod renaming;
 mod seeking;
 mod source;
 
-pub use compiling::{Compiling, Counts, compile};
+pub use compiling::{Counts, compile};

@@ -8,32 +8,32 @@ use Rattle.writing.proofs.Rows.{placed_written, written_front}
 use Rattle.texts.specs.Listings.{longest_counts}
 use Rattle.texts.proofs.Lengths.{refusal_length, counts_length}
 use Rattle.circuits.specs.Limits.{most_wires}
-use Rattle.writer.specs.Compiling.{compiling_of}
+use Rattle.records.specs.Refusals.{number_of, outcome_of}
 use Rattle.compile.specs.Running.{wires_told, answer_line}
 use Rattle.compile.proofs.line_of.Goals as goal
 
 pub overflow_add-qubits : goal.overflow_add-qubits
 overflow_add-qubits c =
-    let few = subst (λ a. wires_told (compiling_of a) ≤ most_wires) c.in-Done.is c.requires.answer_bound in
+    let few = subst (λ a. wires_told (outcome_of a) ≤ most_wires) c.in-Ok.is c.requires.answer_bound in
     omega arith
 
-pub returns-in-Done : goal.returns-in-Done
-returns-in-Done c =
+pub returns-in-Ok : goal.returns-in-Ok
+returns-in-Ok c =
     let put = c.put_compiled.ensures in
-    let few = subst (λ a. wires_told (compiling_of a) ≤ most_wires) c.in-Done.is c.requires.answer_bound in
-    let counts = c.in-Done.counts in
+    let few = subst (λ a. wires_told (outcome_of a) ≤ most_wires) c.in-Ok.is c.requires.answer_bound in
+    let counts = c.in-Ok.counts in
     let short =
     counts_length (counts.qubits + counts.pairs) counts.qubits counts.pairs (text " bytes ") counts.bytes
     (omega arith) (omega arith) (omega arith) (omega arith) (omega arith) in (
       placed_within put (omega arith),
-      written_front (placed_written put longest_counts short (omega arith)) ∙ ap (λ a. answer_line (compiling_of a)) (sym c.in-Done.is),
+      written_front (placed_written put longest_counts short (omega arith)) ∙ ap (λ a. answer_line (outcome_of a)) (sym c.in-Ok.is),
     )
 
-pub returns-in-Refused : goal.returns-in-Refused
-returns-in-Refused c =
-    let put = c.put_refusal.ensures in
-    let r = c.in-Refused.r in
-    let short = refusal_length r.number r.place (omega arith) (omega arith) in (
+pub returns-in-Err : goal.returns-in-Err
+returns-in-Err c =
+    let put = rw c.number.ensures at c.put_refusal.ensures in
+    let r = c.in-Err.r in
+    let short = refusal_length (number_of r.cause) r.place (omega (arith, c.number.ensures)) (omega arith) in (
       placed_within put (omega arith),
-      written_front (placed_written put longest_counts (omega arith) (omega arith)) ∙ ap (λ a. answer_line (compiling_of a)) (sym c.in-Refused.is),
+      written_front (placed_written put longest_counts (omega arith) (omega arith)) ∙ ap (λ a. answer_line (outcome_of a)) (sym c.in-Err.is),
     )

@@ -1,7 +1,8 @@
 -- `circuits::judging::judge_two` meets its contract: its tests are the definition's. Assumes nothing.
-use mathlib.Core.Path.{sym, ap, ◌∙◌}
+use mathlib.Core.Path.{refl, sym, ◌∙◌}
 use borrow.Author.Tests.{le-leb, lt-leb, eq-eqb, ne_eqb}
-use Rattle.circuits.specs.Judging.{verdict_of, judge_two}
+use Rattle.std.proofs.lemmas.Result.{err_from_is_err_and}
+use Rattle.circuits.specs.Judging.{judge_two}
 use Rattle.circuits.proofs.judging.judge_two.Goals as goal
 
 pub returns-then-lines-first : goal.returns-then-lines-first
@@ -18,23 +19,25 @@ returns-then-first-second c = λ bs.
     c.at_fault-then-first-second.ensures
     ∙ rw (lt-leb _ _ c.if-lines-first.false, lt-leb _ _ c.if-lines-second.false, eq-eqb _ _ c.if-first-second.true)
 
-pub returns-in-Fault : goal.returns-in-Fault
+pub returns-in_err-judge_live : goal.returns-in_err-judge_live
 unfolding judge_two
-returns-in-Fault c = λ bs.
+returns-in_err-judge_live c = λ bs. let p = err_from_is_err_and c.from_residual.result c.from_residual.ensures.1 in
     rw (
+      p.1,
+      p.2,
       lt-leb _ _ c.if-lines-first.false,
       lt-leb _ _ c.if-lines-second.false,
       ne_eqb _ _ c.if-first-second.false,
-      sym (c.judge_live.ensures bs) ∙ ap verdict_of c.in-Fault.is,
+      sym (c.in_err-judge_live.ensures bs),
     )
 
-pub returns-in-Passed : goal.returns-in-Passed
+pub returns : goal.returns
 unfolding judge_two
-returns-in-Passed c = λ bs.
-    c.judge_live-in-Passed.ensures bs
+returns c = λ bs.
+    c.judge_live-2.ensures bs
     ∙ rw (
       lt-leb _ _ c.if-lines-first.false,
       lt-leb _ _ c.if-lines-second.false,
       ne_eqb _ _ c.if-first-second.false,
-      sym (c.judge_live.ensures bs) ∙ ap verdict_of c.in-Passed.is,
+      sym (c.in_ok-judge_live.ensures bs),
     )

@@ -6,7 +6,7 @@ use Rattle.circuits.proofs.reading.close.Goals as goal
 
 pub returns-then-line-width : goal.returns-then-line-width
 unfolding ending
-returns-then-line-width c = rw (← c.lowest_unfinished-line.ensures, lt-ltb _ _ c.if-line-width.true)
+returns-then-line-width c = rw (c.at.ensures, ← c.lowest_unfinished-line.ensures, lt-ltb _ _ c.if-line-width.true)
 
 pub returns : goal.returns
 unfolding ending

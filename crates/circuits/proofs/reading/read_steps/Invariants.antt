@@ -8,11 +8,11 @@ use Rattle.circuits.specs.Judging.{states_of, fresh_states}
 use Rattle.circuits.specs.Reading.{read_from, counted}
 use Rattle.circuits.proofs.reading.read_steps.Given as goal
 
-abbrev pub invariant-loop-progress : goal.invariant-loop-progress
-invariant-loop-progress l = (l.left ≤ most_instructions)
+abbrev pub invariant-loop-next : goal.invariant-loop-next
+invariant-loop-next l = (l.left ≤ most_instructions)
     × (length l.progress ≡ most_wires)
     × (length l.uses ≡ most_wires)
     × (counted l.width (most_instructions - l.left) (read_from l.left l.s l.width (states_of l.progress l.uses) l.at) ≡ counted l.width 0 (read_from most_instructions l.s l.width fresh_states header_length))
 
-abbrev pub decreases-loop-progress : goal.decreases-loop-progress
-decreases-loop-progress l = l.left
+abbrev pub decreases-loop-next : goal.decreases-loop-next
+decreases-loop-next l = l.left

@@ -1,5 +1,5 @@
 -- `circuits::sketching::sketch_in` meets its contract: each form in turn. Assumes nothing.
-use mathlib.Core.Path.{ap, ◌∙◌}
+use mathlib.Core.Path.{refl, ap}
 use native.Mathlib.Omega.{arith}
 use Rattle.circuits.specs.Sketching.{operands_of}
 use Rattle.circuits.proofs.Sketches.{some_operand}
@@ -18,13 +18,13 @@ pub bounds-s-at-in-AngledTwoLineGate : goal.bounds-s-at-in-AngledTwoLineGate
 bounds-s-at-in-AngledTwoLineGate c = omega (arith, ap operands_of c.in-AngledTwoLineGate.is)
 
 pub returns-in-StaticWidth : goal.returns-in-StaticWidth
-returns-in-StaticWidth c = c.refuse.ensures ∙ rw c.in-StaticWidth.is
+returns-in-StaticWidth c = rw (c.at.ensures, c.in-StaticWidth.is) refl
 
 pub returns-in-DynamicWidth : goal.returns-in-DynamicWidth
-returns-in-DynamicWidth c = c.refuse-in-DynamicWidth.ensures ∙ rw c.in-DynamicWidth.is
+returns-in-DynamicWidth c = rw (c.at-in-DynamicWidth.ensures, c.in-DynamicWidth.is) refl
 
 pub returns-in-Reuse : goal.returns-in-Reuse
-returns-in-Reuse c = c.refuse-in-Reuse.ensures ∙ rw c.in-Reuse.is
+returns-in-Reuse c = rw (c.at-in-Reuse.ensures, c.in-Reuse.is) refl
 
 pub returns-in-Reset : goal.returns-in-Reset
 returns-in-Reset c = rw c.in-Reset.is

@@ -8,12 +8,34 @@ pub returns-then-list-at : goal.returns-then-list-at
 unfolding pair_at
 returns-then-list-at c = rw (le-leb _ _ c.if-list-at.true)
 
-pub returns-then-is_pair_kind : goal.returns-then-is_pair_kind
+pub returns-then-not-is_pair_kind : goal.returns-then-not-is_pair_kind
 unfolding pair_at
-returns-then-is_pair_kind c = c.pair_of.ensures
-    ∙ ap (pair_of _) c.record_at.ensures
-    ∙ rw (lt-leb _ _ c.if-list-at.false, sym c.is_pair_kind.ensures ∙ c.if-is_pair_kind.true)
+returns-then-not-is_pair_kind c = rw (c.at.ensures, lt-leb _ _ c.if-list-at.false, sym c.is_pair_kind.ensures ∙ c.if-not-is_pair_kind.true)
 
-pub returns-else-is_pair_kind : goal.returns-else-is_pair_kind
+pub returns-in-Ok-Some : goal.returns-in-Ok-Some
 unfolding pair_at
-returns-else-is_pair_kind c = rw (lt-leb _ _ c.if-list-at.false, sym c.is_pair_kind.ensures ∙ c.if-is_pair_kind.false)
+returns-in-Ok-Some c = c.pair_of.ensures
+    ∙ rw (
+      lt-leb _ _ c.if-list-at.false,
+      sym c.is_pair_kind.ensures ∙ c.if-not-is_pair_kind.false,
+      sym c.in-Ok-Some.ensures,
+      c.in-Ok-Some.field-0-is,
+    )
+
+pub returns-in-Ok-None : goal.returns-in-Ok-None
+unfolding pair_at
+returns-in-Ok-None c = rw (
+  lt-leb _ _ c.if-list-at.false,
+  sym c.is_pair_kind.ensures ∙ c.if-not-is_pair_kind.false,
+  sym c.in-Ok-None.ensures,
+  c.in-Ok-None.field-0-is,
+)
+
+pub returns-in-Err : goal.returns-in-Err
+unfolding pair_at
+returns-in-Err c = rw (
+  c.at-in-Err.ensures,
+  lt-leb _ _ c.if-list-at.false,
+  sym c.is_pair_kind.ensures ∙ c.if-not-is_pair_kind.false,
+  sym c.in-Err.ensures,
+)

@@ -1,17 +1,6 @@
--- `pairs::listing::pair_of` meets its contract: each answer in turn. Assumes nothing.
+-- `pairs::listing::pair_of` meets its contract: a pair, or another record. Assumes nothing.
+use Rattle.pairs.proofs.PairTurns.{not_pair}
 use Rattle.pairs.proofs.listing.pair_of.Goals as goal
 
-pub returns-in-Reuse : goal.returns-in-Reuse
-returns-in-Reuse c = rw (c.in-Read.is, c.in-Reuse.is)
-
-pub returns-in-StaticWidth : goal.returns-in-StaticWidth
-returns-in-StaticWidth c = rw (c.in-Read.is, c.in-StaticWidth.is)
-
-pub returns-in-DynamicWidth : goal.returns-in-DynamicWidth
-returns-in-DynamicWidth c = rw (c.in-Read.is, c.in-DynamicWidth.is)
-
-pub returns-in-Step : goal.returns-in-Step
-returns-in-Step c = rw (c.in-Read.is, c.in-Step.is)
-
-pub returns-in-Refused : goal.returns-in-Refused
-returns-in-Refused c = rw c.in-Refused.is
+pub returns-in_default : goal.returns-in_default
+returns-in_default c = rw (c.at.ensures, not_pair c.args.index _ _ c.in_default.not-Reuse)

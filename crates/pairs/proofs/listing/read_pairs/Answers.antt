@@ -2,37 +2,39 @@
 -- Assumes nothing.
 use mathlib.Core.Path.{sym, ap, ◌∙◌}
 use native.Mathlib.Omega.{arith}
-use Rattle.basics.specs.Outcome.{handing}
-use Rattle.table.specs.Calls.{replied}
-use Rattle.pairs.specs.Listing.{found_pair}
-use Rattle.pairs.proofs.PairTurns.{settled_as, going_start, going_end, going_refused, going_untaken, going_on, pair_back}
+use Rattle.std.specs.Prelude.{Ok}
+use Rattle.std.proofs.lemmas.Result.{err_from_is_err_and}
+use Rattle.pairs.specs.Listing.{found_pair, paired}
+use Rattle.pairs.proofs.PairTurns.{going_start, going_end, going_refused, going_untaken, going_on, pair_back}
 use Rattle.pairs.proofs.listing.read_pairs.Goals as goal
 
-pub loop-r-init : goal.loop-r-init
-loop-r-init c = going_start _ _ _ c.none-lenders.ensures
+pub loop-lender-init : goal.loop-lender-init
+loop-lender-init c = going_start _ _ _ c.none-lenders.ensures
 
-pub returns-in-End : goal.returns-in-End
-returns-in-End c = going_end _ _ _ _ _ _ c.loop-r.invariant (sym c.pair_at.ensures ∙ ap found_pair c.in-End.is)
+pub returns-in_err-lender : goal.returns-in_err-lender
+returns-in_err-lender c = let p = err_from_is_err_and c.from_residual.result c.from_residual.ensures.1 in
+    rw (p.1, p.2) (ap paired (going_refused _ _ _ _ _ _ c.loop-lender.invariant (sym c.in_err-lender.ensures)))
 
-pub returns-in-Refused : goal.returns-in-Refused
-returns-in-Refused c = settled_as (going_refused _ _ _ _ _ _ c.loop-r.invariant (sym c.pair_at.ensures ∙ ap found_pair c.in-Refused.is)) c.refuse.ensures
+pub take-requires : goal.take-requires
+take-requires c = c.loop-lender.invariant.clean
 
-pub take-offered-requires : goal.take-offered-requires
-take-offered-requires c = c.loop-r.invariant.clean
-
-pub returns-in-Refused-reply : goal.returns-in-Refused-reply
-returns-in-Refused-reply c = settled_as
-    (going_untaken _ _ _ _ _ _ c.loop-r.invariant (sym c.pair_at.ensures ∙ ap found_pair c.in-Pair.is)
-    (sym c.take-offered.ensures ∙ ap (λ r. handing c.take-offered.result.table (replied r)) c.in-Refused-reply.is))
-    c.refuse-in-Refused-reply.ensures
+pub returns-in-Err : goal.returns-in-Err
+returns-in-Err c = rw c.at.ensures
+    (ap paired (going_untaken _ _ _ _ _ _ c.loop-lender.invariant (sym c.in_ok-lender.ensures ∙ ap (λ o. found_pair (Ok o)) c.in-Some.is)
+    (sym c.in-Err.ensures)))
 
 pub overflow_add-index : goal.overflow_add-index
-overflow_add-index c = omega (arith, c.loop-r.invariant.onward, c.loop-r.invariant.inside, (pair_back _ _ _ (sym c.pair_at.ensures ∙ ap found_pair c.in-Pair.is)).past)
+overflow_add-index c = let back = pair_back _ _ _ (sym c.in_ok-lender.ensures ∙ ap (λ o. found_pair (Ok o)) c.in-Some.is) in
+    omega (arith, c.loop-lender.invariant.onward, c.loop-lender.invariant.inside, back.past)
 
-pub loop-r-smaller : goal.loop-r-smaller
-loop-r-smaller c = omega (arith, c.loop-r.invariant.inside, (pair_back _ _ _ (sym c.pair_at.ensures ∙ ap found_pair c.in-Pair.is)).past, (pair_back _ _ _ (sym c.pair_at.ensures ∙ ap found_pair c.in-Pair.is)).within)
+pub loop-lender-smaller : goal.loop-lender-smaller
+loop-lender-smaller c = let back = pair_back _ _ _ (sym c.in_ok-lender.ensures ∙ ap (λ o. found_pair (Ok o)) c.in-Some.is) in
+    omega (arith, c.loop-lender.invariant.inside, back.past, back.within)
 
-pub loop-r-preserved : goal.loop-r-preserved
-loop-r-preserved c = going_on _ _ _ _ _ _ c.loop-r.invariant (sym c.pair_at.ensures ∙ ap found_pair c.in-Pair.is)
-    (sym c.take-offered.ensures ∙ ap (λ r. handing c.take-offered.result.table (replied r)) c.in-Taken.is)
+pub loop-lender-preserved : goal.loop-lender-preserved
+loop-lender-preserved c = going_on _ _ _ _ _ _ c.loop-lender.invariant (sym c.in_ok-lender.ensures ∙ ap (λ o. found_pair (Ok o)) c.in-Some.is)
+    (sym c.in-Ok.ensures)
     c.with_pair-lenders.ensures
+
+pub returns : goal.returns
+returns c = going_end _ _ _ _ _ _ c.loop-lender.invariant (sym c.in_ok-lender.ensures ∙ ap (λ o. found_pair (Ok o)) c.in_default.is)

@@ -5,8 +5,8 @@ use lib.ListN.{length}
 use Rattle.pairs.proofs.PairTurns.{Going}
 use Rattle.pairs.proofs.listing.read_pairs.Given as goal
 
-abbrev pub invariant-loop-r : goal.invariant-loop-r
-invariant-loop-r l = Going l.table l.list l.now l.lenders l.at l.index
+abbrev pub invariant-loop-lender : goal.invariant-loop-lender
+invariant-loop-lender l = Going l.fn.table l.list l.now l.lenders l.at l.index
 
-abbrev pub decreases-loop-r : goal.decreases-loop-r
-decreases-loop-r l = length l.list - l.at
+abbrev pub decreases-loop-lender : goal.decreases-loop-lender
+decreases-loop-lender l = length l.list - l.at

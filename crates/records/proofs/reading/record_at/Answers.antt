@@ -1,27 +1,17 @@
 -- `records::reading::record_at` meets its contract: each way out is one of the answers. Assumes nothing.
 use native.Mathlib.Omega.{arith}
-use mathlib.Core.Path.{sym, ap, ◌∙◌}
-use Rattle.records.specs.Kinds.{outlined}
+use mathlib.Core.Path.{sym, refl, ◌∙◌}
 use Rattle.records.proofs.Standings.{at_end, at_unknown, at_cut, at_record}
 use Rattle.records.proofs.reading.record_at.Goals as goal
 
 pub returns-then-s-at : goal.returns-then-s-at
-returns-then-s-at c = sym (at_end _ _ c.if-s-at.true)
+returns-then-s-at c = sym (at_end _ _ (omega arith))
+
+pub returns-in_default : goal.returns-in_default
+returns-in_default c = rw (c.at.ensures, at_unknown c.args.s.now c.args.at (omega arith) (sym c.shape.ensures ∙ c.in_default.is)) refl
 
 pub returns-then-s-at-2 : goal.returns-then-s-at-2
-returns-then-s-at-2 c = sym
-    (at_cut _ _ c.if-s-at.false
-    (sym c.shape.ensures ∙ ap outlined c.in-Body.is)
-    (omega arith))
+returns-then-s-at-2 c = rw (c.at-then-s-at-2.ensures, at_cut c.args.s.now c.args.at (omega arith) (sym c.shape.ensures ∙ c.in-Some.is) (omega arith)) refl
 
-pub returns-in-Unknown : goal.returns-in-Unknown
-returns-in-Unknown c = sym
-    (at_unknown _ _ c.if-s-at.false
-    (sym c.shape.ensures ∙ ap outlined c.in-Unknown.is))
-
-pub returns-else-s-at-2 : goal.returns-else-s-at-2
-returns-else-s-at-2 c = rw c.decode-item.ensures
-    (sym
-    (at_record _ _ c.if-s-at.false
-    (sym c.shape.ensures ∙ ap outlined c.in-Body.is)
-    (omega arith)))
+pub returns : goal.returns
+returns c = rw (c.decode.ensures, at_record c.args.s.now c.args.at (omega arith) (sym c.shape.ensures ∙ c.in-Some.is) (omega arith)) refl

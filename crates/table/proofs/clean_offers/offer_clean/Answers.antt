@@ -1,26 +1,17 @@
--- `table::clean_offers::offer_clean` meets its contract: the reply is what becomes of the offer, and an offer that is taken has its lender's row. Assumes nothing.
+-- `table::clean_offers::offer_clean` meets its contract: an offer that is taken has its lender's row. Assumes nothing.
 use mathlib.Core.Path.{sym, ap, ◌∙◌}
-use Rattle.basics.specs.Outcome.{Outcome, done, handing, beside}
+use Rattle.std.proofs.lemmas.Result.{err_from_is_err_and}
+use Rattle.basics.specs.Outcome.{done, handing}
 use Rattle.table.specs.Rule.{accepted_clean}
-use Rattle.table.specs.Calls.{replied}
 use Rattle.table.proofs.Offers.{taken_inside}
 use Rattle.table.proofs.clean_offers.offer_clean.Goals as goal
 
-pub accept_clean-after-requires : goal.accept_clean-after-requires
-accept_clean-after-requires c = taken_inside _ _ _ (sym c.judge-reply.ensures ∙ ap replied c.in-Taken.is)
+pub returns-in_err-judge : goal.returns-in_err-judge
+returns-in_err-judge c = let p = err_from_is_err_and c.from_residual.result c.from_residual.ensures.1 in
+    rw (p.1, p.2) (ap (handing (accepted_clean c.args.table c.args.lender.0 c.args.taker.0)) c.in_err-judge.ensures)
 
-pub returns-in-Taken : goal.returns-in-Taken
-returns-in-Taken c = let a = c.args in
-    let after = accepted_clean a.table a.lender.0 a.taker.0 in
-    let reply = sym (ap replied c.in-Taken.is) ∙ c.judge-reply.ensures in (
-      ap done c.accept_clean-after.ensures ∙ ap (handing after) reply,
-      c.accept_clean-after.ensures ∙ ap (λ (o : Outcome (Unit {0})). beside a.table (handing after o)) reply,
-    )
+pub accept_clean-requires : goal.accept_clean-requires
+accept_clean-requires c = taken_inside _ _ _ (sym c.in_ok-judge.ensures)
 
-pub returns-in-Refused : goal.returns-in-Refused
-returns-in-Refused c = let a = c.args in
-    let after = accepted_clean a.table a.lender.0 a.taker.0 in
-    let reply = sym (ap replied c.in-Refused.is) ∙ c.judge-reply.ensures in (
-      ap (handing after) reply,
-      ap (λ (o : Outcome (Unit {0})). beside a.table (handing after o)) reply,
-    )
+pub returns : goal.returns
+returns c = ap done c.accept_clean.ensures ∙ ap (handing (accepted_clean c.args.table c.args.lender.0 c.args.taker.0)) c.in_ok-judge.ensures

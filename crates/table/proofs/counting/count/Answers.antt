@@ -6,7 +6,7 @@ use Rattle.table.proofs.counting.count.Goals as goal
 
 pub returns-then-wrong_width : goal.returns-then-wrong_width
 unfolding count_of
-returns-then-wrong_width c = rw (sym c.wrong_width.ensures ∙ c.if-wrong_width.true)
+returns-then-wrong_width c = rw (c.at.ensures, sym c.wrong_width.ensures ∙ c.if-wrong_width.true)
 
 pub returns : goal.returns
 unfolding count_of

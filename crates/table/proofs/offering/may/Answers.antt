@@ -6,12 +6,8 @@ use Rattle.table.proofs.offering.may.Goals as goal
 
 pub returns-then-wrong_width : goal.returns-then-wrong_width
 unfolding may_lend
-returns-then-wrong_width c = rw (sym c.wrong_width.ensures ∙ c.if-wrong_width.true)
+returns-then-wrong_width c = rw (c.at.ensures, sym c.wrong_width.ensures ∙ c.if-wrong_width.true)
 
-pub returns-then-is_yes : goal.returns-then-is_yes
+pub returns : goal.returns
 unfolding may_lend
-returns-then-is_yes c = rw (sym c.wrong_width.ensures ∙ c.if-wrong_width.false) (ap done (sym c.if-is_yes.true ∙ c.is_yes.ensures))
-
-pub returns-else-is_yes : goal.returns-else-is_yes
-unfolding may_lend
-returns-else-is_yes c = rw (sym c.wrong_width.ensures ∙ c.if-wrong_width.false) (ap done (sym c.if-is_yes.false ∙ c.is_yes.ensures))
+returns c = rw (sym c.wrong_width.ensures ∙ c.if-wrong_width.false) (ap done c.is_yes.ensures)

@@ -1,22 +1,13 @@
 -- `table::offering::offer` meets its contract: the reply is what becomes of the offer. Assumes nothing.
-use mathlib.Core.Path.{sym, ap, ◌∙◌}
-use Rattle.basics.specs.Outcome.{Outcome, done, handing, beside}
+use mathlib.Core.Path.{ap, ◌∙◌}
+use Rattle.std.proofs.lemmas.Result.{err_from_is_err_and}
+use Rattle.basics.specs.Outcome.{done, handing}
 use Rattle.table.specs.Rule.{accepted}
-use Rattle.table.specs.Calls.{replied}
 use Rattle.table.proofs.offering.offer.Goals as goal
 
-pub returns-in-Taken : goal.returns-in-Taken
-returns-in-Taken c = let a = c.args in
-    let after = accepted a.table a.lender.0 a.taker.0 in
-    let reply = sym (ap replied c.in-Taken.is) ∙ c.judge-reply.ensures in (
-      ap done c.accept-after.ensures ∙ ap (handing after) reply,
-      c.accept-after.ensures ∙ ap (λ (o : Outcome (Unit {0})). beside a.table (handing after o)) reply,
-    )
+pub returns-in_err-judge : goal.returns-in_err-judge
+returns-in_err-judge c = let p = err_from_is_err_and c.from_residual.result c.from_residual.ensures.1 in
+    rw (p.1, p.2) (ap (handing (accepted c.args.table c.args.lender.0 c.args.taker.0)) c.in_err-judge.ensures)
 
-pub returns-in-Refused : goal.returns-in-Refused
-returns-in-Refused c = let a = c.args in
-    let after = accepted a.table a.lender.0 a.taker.0 in
-    let reply = sym (ap replied c.in-Refused.is) ∙ c.judge-reply.ensures in (
-      ap (handing after) reply,
-      ap (λ (o : Outcome (Unit {0})). beside a.table (handing after o)) reply,
-    )
+pub returns : goal.returns
+returns c = ap done c.accept.ensures ∙ ap (handing (accepted c.args.table c.args.lender.0 c.args.taker.0)) c.in_ok-judge.ensures

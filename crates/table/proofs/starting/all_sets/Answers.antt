@@ -7,29 +7,29 @@ use Rattle.circuits.specs.Reading.{read_circuit}
 use Rattle.circuits.specs.Rewriting.{steps_of}
 use Rattle.circuits.proofs.Turns.{some_left}
 use Rattle.circuits.proofs.Sketches.{drawn, drawn_end, drawn_refused}
+use Rattle.circuits.proofs.Going.{goes_on, goes_out}
 use Rattle.circuits.proofs.Walks.{steps_next, steps_end, steps_faultless}
 use Rattle.table.specs.Starting.{rows_sketched}
 use Rattle.table.proofs.StartRows.{Holdable, holdable_none, holdable_after, sketched_rows, pass_on, pass_over}
 use Rattle.table.proofs.starting.all_sets.Goals as goal
 
-pub loop-rows-init : goal.loop-rows-init
-loop-rows-init c = (steps_of (read_circuit c.args.circuit.now), c.requires, holdable_none, refl)
-
-pub returns-in-End : goal.returns-in-End
-returns-in-End c = sym (pass_over _ (steps_end _ _ _ c.loop-rows.invariant.1 (drawn_end _ (sym c.sketch_at.ensures ∙ ap glimpsed c.in-End.is)))) ∙ c.loop-rows.invariant.3
-
-pub returns-in-Refused : goal.returns-in-Refused
-returns-in-Refused c = absurd (steps_faultless _ _ _ c.loop-rows.invariant.1 (drawn_refused _ (sym c.sketch_at.ensures ∙ ap glimpsed c.in-Refused.is)))
+pub loop-sketch-init : goal.loop-sketch-init
+loop-sketch-init c = (steps_of (read_circuit c.args.circuit.now), c.requires, holdable_none, refl)
 
 pub overflow_sub-left : goal.overflow_sub-left
-overflow_sub-left c = some_left _ _ _ (drawn _ (sym c.sketch_at.ensures ∙ ap glimpsed c.in-Step.is)).stands
+overflow_sub-left c = some_left _ _ _ (drawn _ (goes_on glimpsed _ c.sketch_at.ensures (sym c.unwrap_or.ensures ∙ c.in-Some.is))).stands
 
-pub loop-rows-smaller : goal.loop-rows-smaller
-loop-rows-smaller c = omega (arith, some_left _ _ _ (drawn _ (sym c.sketch_at.ensures ∙ ap glimpsed c.in-Step.is)).stands)
+pub loop-sketch-smaller : goal.loop-sketch-smaller
+loop-sketch-smaller c = omega (arith, some_left _ _ _ (drawn _ (goes_on glimpsed _ c.sketch_at.ensures (sym c.unwrap_or.ensures ∙ c.in-Some.is))).stands)
 
-pub loop-rows-preserved : goal.loop-rows-preserved
-loop-rows-preserved c = let i = c.loop-rows.invariant in
-    let d = drawn _ (sym c.sketch_at.ensures ∙ ap glimpsed c.in-Step.is) in
+pub loop-sketch-preserved : goal.loop-sketch-preserved
+loop-sketch-preserved c = let i = c.loop-sketch.invariant in
+    let d = drawn _ (goes_on glimpsed _ c.sketch_at.ensures (sym c.unwrap_or.ensures ∙ c.in-Some.is)) in
     let o = steps_next _ _ _ i.1 d.stands in
-    let on = c.join_sets.ensures ∙ ap (λ k. rows_sketched k c.loop-rows.rows) (sym d.like) ∙ sketched_rows _ i.2.many i.2.fits d.instruction in
-    (o.rest, o.steps, subst Holdable (sym on) (holdable_after d.instruction c.loop-rows.rows), pass_on d.instruction _ o.first on ∙ i.3)
+    let on = c.join_sets.ensures ∙ ap (λ k. rows_sketched k c.loop-sketch.rows) (sym d.like) ∙ sketched_rows _ i.2.many i.2.fits d.instruction in
+    (o.rest, o.steps, subst Holdable (sym on) (holdable_after d.instruction c.loop-sketch.rows), pass_on d.instruction _ o.first on ∙ i.3)
+
+pub returns : goal.returns
+returns c = let i = c.loop-sketch.invariant in
+    let out = goes_out glimpsed _ c.sketch_at.ensures (λ q e. steps_faultless _ _ _ i.1 (drawn_refused _ (sym e))) (sym c.unwrap_or.ensures ∙ c.in_default.is) in
+    sym (pass_over _ (steps_end _ _ _ i.1 (drawn_end _ out))) ∙ i.3

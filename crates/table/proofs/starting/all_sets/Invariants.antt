@@ -10,8 +10,8 @@ use Rattle.table.specs.Starting.{no_rows, rows_pass}
 use Rattle.table.proofs.StartRows.{Holdable}
 use Rattle.table.proofs.starting.all_sets.Given as goal
 
-abbrev pub invariant-loop-rows : goal.invariant-loop-rows
-invariant-loop-rows l = (is : List Instruction) × Steps l.circuit l.at l.left is × Holdable l.rows × (rows_pass is l.rows ≡ rows_pass (steps_of (read_circuit l.circuit)) no_rows)
+abbrev pub invariant-loop-sketch : goal.invariant-loop-sketch
+invariant-loop-sketch l = (is : List Instruction) × Steps l.circuit l.at l.left is × Holdable l.rows × (rows_pass is l.rows ≡ rows_pass (steps_of (read_circuit l.circuit)) no_rows)
 
-abbrev pub decreases-loop-rows : goal.decreases-loop-rows
-decreases-loop-rows l = l.left
+abbrev pub decreases-loop-sketch : goal.decreases-loop-sketch
+decreases-loop-sketch l = l.left

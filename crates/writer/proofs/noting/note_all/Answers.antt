@@ -1,13 +1,13 @@
 -- `writer::noting::note_all` meets its contract: the header's refusal, or what the instructions after it give. Assumes nothing.
-use mathlib.Core.Path.{sym, ap, ◌∙◌}
-use Rattle.circuits.specs.Reading.{header_read}
+use mathlib.Core.Path.{sym}
+use Rattle.std.proofs.lemmas.Result.{err_from_is_err_and}
 use Rattle.writer.proofs.Kept.{header_refused}
 use Rattle.writer.proofs.noting.note_all.Goals as goal
 
-pub note_steps-requires : goal.note_steps-requires
-note_steps-requires c = record { circuit_value = sym c.read_header.ensures ∙ ap header_read c.in-Width.is; rows_value = c.requires.rows_value }
+pub returns-in_err-width : goal.returns-in_err-width
+returns-in_err-width c = let p = err_from_is_err_and c.from_residual.result c.from_residual.ensures.1 in
+    let h = header_refused (sym c.in_err-width.ensures) in
+    record { result_value = rw (p.1, p.2) h.0; kept = h.1.0; rows_after = h.1.1 }
 
-pub returns-in-Refused : goal.returns-in-Refused
-returns-in-Refused c =
-    let h = header_refused (sym c.read_header.ensures ∙ ap header_read c.in-Refused.is) in
-    record { result_value = h.0; kept = h.1.0; rows_after = h.1.1 }
+pub note_steps-requires : goal.note_steps-requires
+note_steps-requires c = record { circuit_value = sym c.in_ok-width.ensures; rows_value = c.requires.rows_value }

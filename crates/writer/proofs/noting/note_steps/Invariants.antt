@@ -7,8 +7,8 @@ use Rattle.circuits.specs.Limits.{most_wires, most_instructions}
 use Rattle.writer.proofs.Kept.{Noting}
 use Rattle.writer.proofs.noting.note_steps.Given as goal
 
-abbrev pub invariant-loop-progress : goal.invariant-loop-progress
-invariant-loop-progress l = (length l.progress ≡ most_wires) × (length l.uses ≡ most_wires) × Noting l.circuit l.width l.progress l.uses l.at l.index l.notes l.rows
+abbrev pub invariant-loop-sketch : goal.invariant-loop-sketch
+invariant-loop-sketch l = (length l.progress ≡ most_wires) × (length l.uses ≡ most_wires) × Noting l.circuit l.width l.progress l.uses l.at l.index l.notes l.rows
 
-abbrev pub decreases-loop-progress : goal.decreases-loop-progress
-decreases-loop-progress l = most_instructions - l.index
+abbrev pub decreases-loop-sketch : goal.decreases-loop-sketch
+decreases-loop-sketch l = most_instructions - l.index
