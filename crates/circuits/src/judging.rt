@@ -97,7 +97,7 @@ fn judge_two(lines: u8, progress: &[u8], first: Line, second: Line) -> Result<()
     if lines <= second.0 {
         return at_fault(Cause::LineOutside, 2);
     }
-    if first.0 == second.0 {
+    if first == second {
         return at_fault(Cause::LineNamedTwice, 2);
     }
     judge_live(progress, first, 1)?;

@@ -28,11 +28,8 @@ impl Lenders {
     pub fn lender_of(self, taker: Wire) -> Wire
         ensures { result.0 ≡ lender_of self.lenders taker.0 }
     {
-        let n = taker.0 as usize;
-        if n < Circuit::MOST_WIRES {
-            return Wire(self.lenders[n]);
-        }
-        Wire(Lenders::NOBODY)
+        let lender = self.lenders.get(taker.0 as usize);
+        Wire(lender.copied().unwrap_or(Lenders::NOBODY))
     }
 
     // Whether a wire takes from another of so many wires.

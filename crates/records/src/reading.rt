@@ -11,13 +11,10 @@ use crate::refusals::{Cause, Refusal};
 fn byte_at(s: &[u8], at: usize, distance: usize) -> u8
     ensures { result ≡ get_or s.now (at + distance) 0 }
 {
-    if s.len() <= distance {
-        return 0;
+    match at.checked_add(distance) {
+        Some(place) => s.get(place).copied().unwrap_or(0),
+        None => 0,
     }
-    if s.len() - distance <= at {
-        return 0;
-    }
-    s[at + distance]
 }
 
 // An angle that lies inside the bytes.

@@ -1,6 +1,6 @@
 -- `circuits::judging::judge_two` meets its contract: its tests are the definition's. Assumes nothing.
 use mathlib.Core.Path.{refl, sym, ◌∙◌}
-use borrow.Author.Tests.{le-leb, lt-leb, eq-eqb, ne_eqb}
+use borrow.Author.Tests.{le-leb, lt-leb}
 use Rattle.std.proofs.lemmas.Result.{err_from_is_err_and}
 use Rattle.circuits.specs.Judging.{judge_two}
 use Rattle.circuits.proofs.judging.judge_two.Goals as goal
@@ -13,11 +13,11 @@ pub returns-then-lines-second : goal.returns-then-lines-second
 unfolding judge_two
 returns-then-lines-second c = λ bs. c.at_fault-then-lines-second.ensures ∙ rw (lt-leb _ _ c.if-lines-first.false, le-leb _ _ c.if-lines-second.true)
 
-pub returns-then-first-second : goal.returns-then-first-second
+pub returns-then-eq : goal.returns-then-eq
 unfolding judge_two
-returns-then-first-second c = λ bs.
-    c.at_fault-then-first-second.ensures
-    ∙ rw (lt-leb _ _ c.if-lines-first.false, lt-leb _ _ c.if-lines-second.false, eq-eqb _ _ c.if-first-second.true)
+returns-then-eq c = λ bs.
+    c.at_fault-then-eq.ensures
+    ∙ rw (lt-leb _ _ c.if-lines-first.false, lt-leb _ _ c.if-lines-second.false, sym c.eq.ensures ∙ c.if-eq.true)
 
 pub returns-in_err-judge_live : goal.returns-in_err-judge_live
 unfolding judge_two
@@ -27,7 +27,7 @@ returns-in_err-judge_live c = λ bs. let p = err_from_is_err_and c.from_residual
       p.2,
       lt-leb _ _ c.if-lines-first.false,
       lt-leb _ _ c.if-lines-second.false,
-      ne_eqb _ _ c.if-first-second.false,
+      sym c.eq.ensures ∙ c.if-eq.false,
       sym (c.in_err-judge_live.ensures bs),
     )
 
@@ -38,6 +38,6 @@ returns c = λ bs.
     ∙ rw (
       lt-leb _ _ c.if-lines-first.false,
       lt-leb _ _ c.if-lines-second.false,
-      ne_eqb _ _ c.if-first-second.false,
+      sym c.eq.ensures ∙ c.if-eq.false,
       sym (c.in_ok-judge_live.ensures bs),
     )
