@@ -1,10 +1,10 @@
 -- The bits that the functions of one row compute, at any number of bits k. Assumes nothing.
 use mathlib.Core.Path.{◌≡◌, refl, sym, ap, ◌∙◌}
 use mathlib.Core.Bool.{Bool, true, false, not, ◌&&◌, ◌||◌, and-true, and-false}
-use Prim.Native.Nat.{ℕ, ◌^◌, ◌≤◌, ◌<◌}
+use Prim.Native.Nat.{ℕ, ◌^◌, ◌<◌}
 use native.Mathlib.Omega.{arith}
 use native.Mathlib.Decide.{dec_lt}
-use borrow.Author.Tests.{ne_eqb, eqb-true}
+use borrow.Author.Tests.{eqb-true}
 use lib.Dec.{eqb}
 use lib.Bits.{bit_and}
 use Rattle.bits.specs.Bits.{bit, pack}
@@ -12,14 +12,6 @@ use Rattle.bits.proofs.Packing.{pack_ext, nothing_packed, bit_past}
 use Rattle.bits.proofs.Operations.{Packs, own, and_is, same, bit_is, lt_is}
 use Rattle.table.specs.Marks.{counts_among}
 use Rattle.table.specs.Rule.{row_after}
-
--- to take away or to add a wire past the k bits changes none of them
-module _ {k : ℕ} {f : ℕ → Bool} {n : ℕ} (wire : ℕ) (past : k ≤ wire) where
-  pub none_less : Packs k f n → Packs k (λ v. not (eqb v wire) && f v) n
-  none_less p = same p (λ v l. ap (λ (b : Bool). not b && f v) (sym (ne_eqb v wire (λ e. omega arith))))
-
-  pub none_more : Packs k f n → Packs k (λ v. eqb v wire || f v) n
-  none_more p = same p (λ v l. ap (λ (b : Bool). b || f v) (sym (ne_eqb v wire (λ e. omega arith))))
 
 -- a row without a wire, by marks that are known
 pub less_is : {k : ℕ} {f : ℕ → Bool} {a n : ℕ} (wire : ℕ) → Packs k f a → n ≡ pack k (λ v. not (eqb v wire) && bit v a) → n ≡ pack k (λ v. not (eqb v wire) && f v)

@@ -1,5 +1,5 @@
 // Rows of marks, one at a time: which of them count, and what an accepted offer leaves of them.
-ghost use Rattle.std.specs.Prelude.{◌≡◌, ◌&&◌, not, ltb, eqb};
+ghost use Rattle.std.specs.Prelude.{◌≡◌, ◌&&◌, ◌||◌, not, ltb, eqb};
 ghost use Rattle.bits.specs.Bits.{bit, pack};
 ghost use Rattle.table.specs.Limits.{most_wires};
 ghost use Rattle.table.specs.Marks.{used, free, counts_among, rows_below};
@@ -26,6 +26,20 @@ pub fn has(row: Row, wire: Wire) -> bool
     wire.0 < Table::MOST && (row >> wire.0) % 2 == 1
 }
 
+// The row of one mark, and of none past the last wire.
+fn only(wire: Wire) -> Row
+    ensures { result ≡ pack most_wires (λ v. eqb v wire.0) }
+{
+    if wire.0 < Table::MOST { 1 << wire.0 } else { 0 }
+}
+
+// A row with the mark of one wire.
+pub fn with(row: Row, wire: Wire) -> Row
+    ensures { result ≡ pack most_wires (λ v. bit v row || eqb v wire.0) }
+{
+    row | only(wire)
+}
+
 // The wires below the width.
 fn below(width: u8) -> Row
     ensures { result ≡ pack most_wires (λ i. ltb i width) }
@@ -48,11 +62,7 @@ pub fn rows_below(width: u8) -> u8
 pub fn without(row: Row, wire: Wire) -> Row
     ensures { result ≡ pack most_wires (λ v. not (eqb v wire.0) && bit v row) }
 {
-    if wire.0 < Table::MOST {
-        !(1 << wire.0) & row
-    } else {
-        row
-    }
+    !only(wire) & row
 }
 
 // The free wires of a set of used ones.
@@ -66,11 +76,7 @@ pub fn unused(width: u8, row: Row) -> Row
 pub fn use_wire(width: u8, row: Row, wire: Wire) -> Row
     ensures { result ≡ pack most_wires (used_after (used width row) wire.0) }
 {
-    if wire.0 < Table::MOST {
-        (1 << wire.0) | (below(width) & row)
-    } else {
-        below(width) & row
-    }
+    only(wire) | (below(width) & row)
 }
 
 // The marks of a lender's row that count, by the free lenders and the free takers.

@@ -52,13 +52,13 @@ fn put_row(row: Row, out: &mut [u8], at: usize) -> usize
     writing::put_bytes(out, at, &row.to_le_bytes())
 }
 
-fn store_rows(rows: [Row; Table::ROWS], out: &mut [u8], at: usize) -> usize
-    requires { at + row_bytes * most_wires ≤ length out.old }
-    ensures { Wrote out.old at (bytes_of_all row_bytes rows) out.new result }
+fn store_rows(rows: &[Row], out: &mut [u8], at: usize) -> usize
+    requires { at + length rows.now * row_bytes ≤ length out.old }
+    ensures { Wrote out.old at (bytes_of_all row_bytes rows.now) out.new result }
 {
     let mut to = at;
     for row in rows {
-        to = put_row(row, out, to);
+        to = put_row(*row, out, to);
     }
     to
 }
@@ -68,8 +68,7 @@ fn store_table(table: Table, out: &mut [u8], at: usize) -> usize
     ensures { Wrote out.old at (table_bytes table) out.new result }
 {
     out[at] = table.width;
-    let rows = table.rows;
-    let lenders = store_rows(rows, out, at + 1);
+    let lenders = store_rows(&table.rows, out, at + 1);
     let takers = put_row(table.lending, out, lenders);
     put_row(table.taking, out, takers)
 }

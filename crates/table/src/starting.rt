@@ -11,7 +11,7 @@ ghost use Rattle.circuits.specs.declared.sketching.Sketch.TheVariants as sketch;
 ghost use Rattle.table.specs.Limits.{most_wires};
 ghost use Rattle.table.specs.Starting.{no_rows, rows_sketched, rows_pass, start_row, start_from, started};
 
-use crate::rows::unused;
+use crate::rows::{unused, with};
 use crate::tables::{Row, Table};
 use circuits::{Circuit, Sketch, read, sketch_at, wire_of};
 use records::{Refusal, Wire};
@@ -40,17 +40,6 @@ fn change_set(rows: &mut [Row], wire: Wire, row: Row)
     }
 }
 
-// A set with one wire more.
-fn add_wire(row: Row, wire: Wire) -> Row
-    ensures { result ≡ pack most_wires (λ t. bit t row || eqb t wire.0) }
-{
-    if wire.0 < Table::MOST {
-        row | (1 << wire.0)
-    } else {
-        row
-    }
-}
-
 // What the resets of both lead to, either leads to.
 fn join(rows: &mut [Row], first: Wire, second: Wire)
     ensures { rows.new ≡ rows_sketched (sketch.Two (line first.0) (line second.0)) rows.old }
@@ -67,7 +56,7 @@ pub fn join_sets(rows: &mut [Row], sketch: Sketch)
     match sketch {
         Sketch::Reset(line) => {
             let wire = wire_of(line);
-            let row = add_wire(set_of(rows, wire), wire);
+            let row = with(set_of(rows, wire), wire);
             change_set(rows, wire, row);
         }
         Sketch::Measurement(_, _) => {}

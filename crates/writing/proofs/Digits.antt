@@ -1,7 +1,7 @@
 -- Laws of a number's bytes, at any number of bytes k: how many they are, and the way there and back. Assumes nothing.
 use mathlib.Core.Path.{◌≡◌, refl, sym, ap, ◌∙◌}
 use mathlib.Core.List.{List, [], ◌∷◌, ◌++◌, append_assoc}
-use Prim.Native.Nat.{ℕ, zero, suc, ◌+◌, ◌-◌, ◌*◌, ◌/◌, ◌%◌, ◌^◌, ◌≤◌, ◌<◌}
+use Prim.Native.Nat.{ℕ, zero, suc, ◌+◌, ◌*◌, ◌/◌, ◌%◌, ◌^◌, ◌≤◌, ◌<◌}
 use native.Mathlib.Nat.{pow-suc, not-suc-le-zero, le_of_suc-le-suc, suc-mul, mul-zero, mul-suc, add_comm}
 use native.Mathlib.Decide.{dec_lt}
 use native.Mathlib.Omega.{arith}
@@ -14,15 +14,6 @@ pub length_bytes_of : (k n : ℕ) → length (bytes_of k n) ≡ k
 unfolding bytes_of
 length_bytes_of zero n = refl
 length_bytes_of (suc k) n = ap suc (length_bytes_of k (n / byte_values))
-
--- the first of what is left of them, and nothing left
-pub bytes_next : (k i n : ℕ) → i < k → bytes_of (k - i) n ≡ n % byte_values ∷ bytes_of (k - (i + 1)) (n / byte_values)
-unfolding bytes_of
-bytes_next k i n l = let e : k - i ≡ suc (k - (i + 1)) = omega arith in ap (λ (x : ℕ). bytes_of x n) e
-
-pub bytes_none : (k i n : ℕ) → k ≤ i → bytes_of (k - i) n ≡ []
-unfolding bytes_of
-bytes_none k i n l = let e : k - i ≡ 0 = omega arith in ap (λ (x : ℕ). bytes_of x n) e
 
 pub length-bytes_of_all : (k : ℕ) (ns : List ℕ) → length (bytes_of_all k ns) ≡ length ns * k
 unfolding bytes_of_all

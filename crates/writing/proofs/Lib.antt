@@ -1,7 +1,6 @@
 pub mod Puts
 pub mod Remaining
 pub mod Digits
-pub mod Reading
 pub mod Decimals
 pub mod Spelling
 pub mod Rows

@@ -1,12 +1,12 @@
 -- Laws of `put`: one after the other, a single store, and the whole from the start. Assumes nothing.
 use mathlib.Core.Bool.{Bool, true, false}
 use mathlib.Core.Path.{◌≡◌, refl, sym, ap, subst, ◌∙◌}
-use mathlib.Core.List.{List, [], ◌∷◌, ◌++◌, append_assoc, append-nil}
+use mathlib.Core.List.{List, [], ◌∷◌, ◌++◌, append_assoc}
 use mathlib.Core.Logic.{⊎_elim}
 use Prim.Native.Nat.{ℕ, ◌+◌, ◌≤◌, ◌<◌}
 use native.Mathlib.Omega.{arith}
 use native.Mathlib.Numerals.{add-one}
-use lib.ListN.{length, take, drop, set, length-append, length-take, length-drop, take-append-drop, drop_of_length-le}
+use lib.ListN.{length, take, drop, set, length-append, length-take, length-drop, take-append-drop}
 use lib.Seq.{set_split, take_at, drop_at, drop-drop, length-take-le}
 use borrow.Rule.Slice.PartMut.{put_mid}
 use borrow.Author.Tests.{le-leb, lt-leb, le-ltb, lt-ltb, leb-true}
@@ -73,10 +73,6 @@ wrote_on {old} {at} {xs} {mid} {seam} {ys} {new} {to} l v w = record {
   holds = w.holds ∙ rw (v.holds, v.end) (put-put old at xs ys l);
   end = omega (arith, v.end, w.end, length-append xs ys);
 }
-
--- a buffer that is written whole
-pub put_whole : (old xs : List ℕ) → length old ≡ length xs → put old 0 xs ≡ xs
-put_whole old xs e = put_start old xs ∙ ap (λ (z : List ℕ). xs ++ z) (drop_of_length-le old {i = length xs} (omega arith)) ∙ append-nil xs
 
 -- where there is room, what was placed was written
 module _ {old : List ℕ} {at : ℕ} {xs new : List ℕ} {to : ℕ} where

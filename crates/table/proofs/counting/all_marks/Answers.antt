@@ -7,7 +7,6 @@ use lib.ListN.{get_or}
 use Rattle.bits.specs.Bits.{pack}
 use Rattle.table.specs.Limits.{most_wires}
 use Rattle.table.specs.Marks.{counts, rows_below}
-use Rattle.table.proofs.Held.{row_held}
 use Rattle.table.proofs.TableMarks.{row_counts}
 use Rattle.table.proofs.RowsBelow.{below_most, no_marks, filling_starts, filling_more, filling_ends}
 use Rattle.table.proofs.counting.all_marks.Goals as goal
@@ -19,7 +18,7 @@ pub loop-u-preserved : goal.loop-u-preserved
 loop-u-preserved c = let t = c.args.table in
     let few = below_most t.width in
     let h = c.loop-u in
-    let fits : get_or t.rows h.u 0 < 2 ^ most_wires = row_held t.rows c.well_formed.0.1.1.1.0 h.u in
+    let fits : get_or t.rows h.u 0 < 2 ^ most_wires = omega arith in
     let row = c.counting.ensures ∙ row_counts t h.u fits (record { is = c.unused-lenders.ensures }) (record { is = c.unused-takers.ensures }) (omega arith) in
     filling_more (λ lender. pack most_wires (counts t lender)) h.u _ _ (omega arith) h.invariant row
 

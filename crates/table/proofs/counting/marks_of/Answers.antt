@@ -9,7 +9,6 @@ use Rattle.bits.specs.Bits.{total}
 use Rattle.bits.proofs.Sums.{tallies_more, tallies_le}
 use Rattle.table.specs.Limits.{most_wires}
 use Rattle.table.specs.Marks.{counts, rows_below}
-use Rattle.table.proofs.Held.{row_held}
 use Rattle.table.proofs.TableMarks.{row_counts}
 use Rattle.table.proofs.RowsBelow.{below_most, marks_below}
 use Rattle.table.proofs.counting.marks_of.Goals as goal
@@ -25,7 +24,7 @@ overflow_add-n c = let h = c.loop-u in
 pub loop-u-preserved : goal.loop-u-preserved
 loop-u-preserved c = let h = c.loop-u in
     let few = below_most c.args.table.width in
-    let fits : get_or c.args.table.rows h.u 0 < 2 ^ most_wires = row_held c.args.table.rows c.well_formed.0.1.1.1.0 h.u in
+    let fits : get_or c.args.table.rows h.u 0 < 2 ^ most_wires = omega arith in
     let row = c.counting.ensures ∙ row_counts c.args.table h.u fits (record { is = c.unused-lenders.ensures }) (record { is = c.unused-takers.ensures }) (omega arith) in
     tallies_more most_wires (counts c.args.table) _ _ _ h.invariant (record { is = row })
 

@@ -1,14 +1,8 @@
 -- `table::rows::without` meets its contract. Assumes nothing.
-use Rattle.table.specs.Limits.{most_wires}
-use Rattle.bits.proofs.Operations.{own, and_is, not_is, shl_is}
-use Rattle.table.proofs.RowBits.{none_less}
 use borrow.Author.Rules.{rules}
+use Rattle.table.specs.Limits.{most_wires}
+use Rattle.bits.proofs.Operations.{own, and_is, not_is}
 use Rattle.table.proofs.rows.without.Goals as goal
 
-pub returns-then-wire-lt-MOST : goal.returns-then-wire-lt-MOST
-returns-then-wire-lt-MOST c = let a = c.args in
-    (and_is (not_is (shl_is most_wires a.wire.0 (search rules))) (own most_wires {n = a.row} (search rules))).is
-
-pub returns-else-wire-lt-MOST : goal.returns-else-wire-lt-MOST
-returns-else-wire-lt-MOST c = let a = c.args in
-    (none_less a.wire.0 (search rules) (own most_wires {n = a.row} (search rules))).is
+pub returns : goal.returns
+returns c = (and_is (not_is (record { is = c.only.ensures })) (own most_wires {n = c.args.row} (search rules))).is

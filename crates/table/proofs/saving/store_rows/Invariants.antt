@@ -7,4 +7,4 @@ use Rattle.table.specs.Limits.{row_bytes}
 use Rattle.table.proofs.saving.store_rows.Given as goal
 
 abbrev pub invariant-loop-row : goal.invariant-loop-row
-invariant-loop-row l = Remaining l.initial.out l.at (bytes_of_all row_bytes l.row-items) l.out l.to (bytes_of_all row_bytes (drop l.row-index l.row-items))
+invariant-loop-row l = Remaining l.initial.out l.at (bytes_of_all row_bytes l.rows) l.out l.to (bytes_of_all row_bytes (drop l.row-index l.rows))

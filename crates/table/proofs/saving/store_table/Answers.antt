@@ -10,7 +10,6 @@ use Rattle.writing.proofs.Remaining.{Remaining, remaining_start, remaining_store
 use Rattle.table.specs.Limits.{most_wires, row_bytes, table_length}
 use Rattle.table.specs.declared.tables.Table.{Table}
 use Rattle.table.specs.TableBytes.{table_bytes}
-use Rattle.table.proofs.Held.{rows_held}
 use Rattle.table.proofs.SavedTables.{table_parts, length-table_bytes}
 use Rattle.table.proofs.saving.store_table.Goals as goal
 
@@ -33,7 +32,7 @@ pub store_rows-lenders-requires : goal.store_rows-lenders-requires
 store_rows-lenders-requires c = omega (arith, length-set c.args.out.now c.args.at c.args.table.width)
 
 pub shape_of-out : goal.shape_of-out
-shape_of-out c = (all_written _ _ _ _ _ _ _ _ c.args.table (rows_held c.args.table.rows c.well_formed.0.1.1.1.0) c.requires c.store_rows-lenders.ensures c.put_row-takers.ensures c.put_row.ensures).same
+shape_of-out c = (all_written _ _ _ _ _ _ _ _ c.args.table (omega arith) c.requires c.store_rows-lenders.ensures c.put_row-takers.ensures c.put_row.ensures).same
 
 pub returns : goal.returns
-returns c = remaining_end refl (all_written _ _ _ _ _ _ _ _ c.args.table (rows_held c.args.table.rows c.well_formed.0.1.1.1.0) c.requires c.store_rows-lenders.ensures c.put_row-takers.ensures c.put_row.ensures)
+returns c = remaining_end refl (all_written _ _ _ _ _ _ _ _ c.args.table (omega arith) c.requires c.store_rows-lenders.ensures c.put_row-takers.ensures c.put_row.ensures)
