@@ -26,9 +26,9 @@ fn accept_clean(table: Table, lender: Wire, taker: Wire) -> Table
     let given = row_of(table, lender);
     let lending = use_wire(table.width, table.lending, lender);
     let taking = use_wire(table.width, table.taking, taker);
-    let mut rows = table.rows;
-    for row in rows.iter_mut() {
-        *row = row_left(given, *row, taker);
+    let mut rows = [0; Table::ROWS];
+    for (u, row) in rows.iter_mut().enumerate() {
+        *row = row_left(given, table.rows[u], taker);
     }
     rows[lender.0 as usize] = 0;
     Table {
