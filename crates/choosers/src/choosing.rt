@@ -31,19 +31,15 @@ fn better_of(best: Option<Tried>, new: Tried) -> Option<Tried>
     }
 }
 
-// How many marks the rows of the other lenders keep once a lender with these marks lends to the taker. The rows are counted with
-// `usize`: the compiler then takes several at a time.
+// How many marks the rows of the other lenders keep once a lender with these marks lends to the taker.
 fn marks_left(rows: &[Row; Table::ROWS], width: u8, given: Row, taker: Wire) -> u32
     requires rows_len { length rows.now ≡ most_wires }
     requires width_le_most_wires { width ≤ most_wires }
     ensures { result ≡ marks_left rows.now width given taker.0 }
 {
-    let end = width as usize;
     let mut n: u32 = 0;
-    let mut u: usize = 0;
-    while u < end {
-        n += u32::count_ones(row_left(given, rows[u], taker));
-        u += 1;
+    for row in &rows[..width as usize] {
+        n += row_left(given, *row, taker).count_ones();
     }
     n
 }
@@ -67,8 +63,7 @@ fn try_takers(
         return best;
     }
     let mut now = best;
-    let mut taker: u8 = 0;
-    while taker < table.width {
+    for taker in 0..table.width {
         if (given >> taker) % 2 == 1 {
             let score = marks_left(rows, table.width, given, Wire(taker));
             let pair = Pair {
@@ -77,7 +72,6 @@ fn try_takers(
             };
             now = better_of(now, Tried { pair, score });
         }
-        taker += 1;
     }
     now
 }
@@ -89,30 +83,23 @@ fn try_pairs(table: Table) -> Option<Tried>
 {
     let mut rows = all_marks(table);
     let mut best = None;
-    let mut lender: u8 = 0;
-    while lender < table.width {
+    for lender in 0..table.width {
         let at = lender as usize;
         let given = rows[at];
         rows[at] = 0;
         best = try_takers(table, &rows, given, Wire(lender), best);
         rows[at] = given;
-        lender += 1;
     }
     best
 }
 
 // One pair more.
-fn with_pair(list: PairList, pair: Pair) -> PairList
-    requires { list.length < most_pairs }
-    ensures { result ≡ stored list pair }
+fn push(list: &mut PairList, pair: Pair)
+    requires { list.old.length < most_pairs }
+    ensures { list.new ≡ stored list.old pair }
 {
-    let at = list.length;
-    let mut pairs = list.pairs;
-    pairs[at] = pair;
-    PairList {
-        pairs,
-        length: at + 1,
-    }
+    list.pairs[list.length] = pair;
+    list.length += 1;
 }
 
 // The yes marks at a round's start: so many pairs are tried in it.
@@ -133,8 +120,10 @@ fn round(rounds: Rounds, marks: u32) -> Rounds
     let Some(tried) = try_pairs(table) else {
         return rounds;
     };
+    let mut list = rounds.list;
+    push(&mut list, tried.pair);
     Rounds {
-        list: with_pair(rounds.list, tried.pair),
+        list,
         // A yes is taken.
         table: offer(table, tried.pair.lender, tried.pair.taker).unwrap(),
         trials: rounds.trials + marks,

@@ -11,6 +11,9 @@ use Rattle.choosers.proofs.YesPairs.{yes_offered}
 use Rattle.choosers.proofs.GreedyRounds.{best_is}
 use Rattle.choosers.proofs.choosing.round.Goals as goal
 
+pub push-requires : goal.push-requires
+push-requires c = c.requires.length_lt_most_pairs
+
 pub returns-in_default : goal.returns-in_default
 unfolding best_pair
 returns-in_default c = ap (λ o. round_after c.args.rounds c.args.marks (map (λ (b : Tried). b.pair) o)) (sym (ap best_said c.in_default.is) ∙ c.try_pairs.ensures)
@@ -27,4 +30,4 @@ returns c = let a = c.args in
     let t = a.rounds.table in
     let best = ap (map (λ (b : Tried). b.pair)) (sym c.try_pairs.ensures ∙ ap best_said c.in-Some.is) in
     let taken = ap (beside t) (sym (ap outcome_of c.unwrap.ensures) ∙ c.offer.ensures ∙ yes_offered t c.requires.table_value _ _ (best_is t _ best).is_yes) in
-    (λ i. record { list = c.with_pair.ensures i; table = taken i; trials = a.rounds.trials + a.marks }) ∙ ap (round_after a.rounds a.marks) (sym best)
+    (λ i. record { list = c.push.ensures i; table = taken i; trials = a.rounds.trials + a.marks }) ∙ ap (round_after a.rounds a.marks) (sym best)

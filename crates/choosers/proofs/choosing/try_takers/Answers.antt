@@ -2,7 +2,6 @@
 use mathlib.Core.Path.{◌≡◌, refl, ap, ◌∙◌}
 use native.Mathlib.Numerals.{add-one}
 use native.Mathlib.Omega.{arith}
-use borrow.Author.Rules.{rules}
 use lib.ListN.{length}
 use Rattle.bits.proofs.Lists.{length-each}
 use Rattle.table.specs.Marks.{counts}
@@ -15,7 +14,7 @@ use Rattle.choosers.proofs.choosing.try_takers.Goals.{then-given-taker-eq1, else
 
 pub loop-taker-init : goal.loop-taker-init
 unfolding try_takers
-loop-taker-init c = (search rules, refl)
+loop-taker-init c = refl
 
 pub overflow_shr-given : goal.overflow_shr-given
 overflow_shr-given c = omega (arith, fits c.args.table c.requires.table_value, c.loop-taker-test.true)
@@ -28,15 +27,12 @@ pub loop-taker-preserved : goal.loop-taker-preserved
 unfolding try_takers
 loop-taker-preserved c = let l = c.loop-taker in
     let t = c.args.table in
-    let before = l.invariant.1 in (
-      search rules,
-      rw add-one
-          ((elim c.if-given-taker-eq1.branch [
-            | then-given-taker-eq1 w ↦ ap best_said w.now-is ∙ w.better_of-now.ensures ∙ tries_yes t c.requires.table_value c.args.lender.0 _ c.args.given c.requires.rows_value c.requires.given_value l.taker c.loop-taker-test.true (best_said l.now) w.if-given-taker-eq1.true _ w.marks_left-score.ensures
-            | else-given-taker-eq1 w ↦ ap best_said w.now-is ∙ tries_not t c.requires.table_value c.args.lender.0 _ c.args.given c.requires.rows_value c.requires.given_value l.taker c.loop-taker-test.true (best_said l.now) w.if-given-taker-eq1.false
-          ])
-          ∙ ap (try_pair (counts t) (score_in t) c.args.lender.0 l.taker) before),
-    )
+    rw add-one
+    ((elim c.if-given-taker-eq1.branch [
+      | then-given-taker-eq1 w ↦ ap best_said w.now-is ∙ w.better_of-now.ensures ∙ tries_yes t c.requires.table_value c.args.lender.0 _ c.args.given c.requires.rows_value c.requires.given_value l.taker c.loop-taker-test.true (best_said l.now) w.if-given-taker-eq1.true _ w.marks_left-score.ensures
+      | else-given-taker-eq1 w ↦ ap best_said w.now-is ∙ tries_not t c.requires.table_value c.args.lender.0 _ c.args.given c.requires.rows_value c.requires.given_value l.taker c.loop-taker-test.true (best_said l.now) w.if-given-taker-eq1.false
+    ])
+    ∙ ap (try_pair (counts t) (score_in t) c.args.lender.0 l.taker) l.invariant)
 
 pub returns : goal.returns
-returns c = let e : c.loop-taker.taker ≡ c.args.table.width = omega arith in rw e at c.loop-taker.invariant.1
+returns c = let e : c.loop-taker.taker ≡ c.args.table.width = omega arith in rw e at c.loop-taker.invariant
