@@ -2,6 +2,7 @@
 -- instruction. Assumes nothing.
 use Prim.Native.Nat.{ℕ, suc, ◌+◌, ◌-◌, ◌≤◌, ◌<◌}
 use mathlib.Core.Path.{◌≡◌, refl, sym, ap, subst, ◌∙◌}
+use mathlib.Core.Bool.{Bool, true, false}
 use mathlib.Core.List.{List, [], ◌∷◌, append-nil}
 use native.Mathlib.Omega.{arith}
 use lib.ListN.{length, get_or, set, take, drop, length-take, length-drop}
@@ -13,11 +14,10 @@ use Rattle.records.specs.declared.instructions.Instruction.{Instruction}
 use Rattle.records.specs.declared.instructions.Instruction.TheVariants.{Reset, Measurement, Gate, AngledGate, TwoLineGate, AngledTwoLineGate}
 use Rattle.records.specs.declared.instructions.Record.TheVariants.{Step}
 use Rattle.circuits.proofs.Steps.{step_record}
-use Rattle.writer.specs.Notes.{form_of, first_wire, second_wire, note_at, first_at, second_at, place_at, Noted}
-use Rattle.writer.specs.declared.notes.Form.TheVariants as form
+use Rattle.writer.specs.Notes.{is_two, form_of, first_wire, second_wire, note_at, first_at, second_at, place_at, Noted}
 use Rattle.writer.specs.declared.notes.Notes.{Notes}
 use Rattle.writer.specs.Outputs.{renamed, behind}
-use Rattle.writer.proofs.Wires.{form_noted, first_noted, second_noted}
+use Rattle.writer.proofs.Wires.{two_noted, first_noted, second_noted}
 
 -- ## What is stored
 
@@ -62,16 +62,16 @@ behind_first s from next l b =
     ap (λ k. take k (drop from s)) n ∙ ap (take (suc (next - (from + 1)))) (drop_next s from (omega arith))
 
 module _ (q : ℕ → ℕ) where
-  one_bytes : (i : Instruction) (a b : ℕ) (rest : List ℕ) → (form_of i ≡ form.Two → ⊥) → instruction_bytes i ≡ a ∷ b ∷ rest
+  one_bytes : (i : Instruction) (a b : ℕ) (rest : List ℕ) → is_two (form_of i) ≡ false → instruction_bytes i ≡ a ∷ b ∷ rest
       → instruction_bytes (renamed q i) ≡ a ∷ q (first_wire i) ∷ rest
   one_bytes (Reset l) a b rest n e = cc
   one_bytes (Measurement l m) a b rest n e = cc
   one_bytes (Gate k l) a b rest n e = cc
   one_bytes (AngledGate k l g) a b rest n e = cc
-  one_bytes (TwoLineGate k l m) a b rest n e = absurd (n refl)
-  one_bytes (AngledTwoLineGate k l m g) a b rest n e = absurd (n refl)
+  one_bytes (TwoLineGate k l m) a b rest n e = cc
+  one_bytes (AngledTwoLineGate k l m g) a b rest n e = cc
 
-  two_bytes : (i : Instruction) (a b d : ℕ) (rest : List ℕ) → form_of i ≡ form.Two → instruction_bytes i ≡ a ∷ b ∷ d ∷ rest
+  two_bytes : (i : Instruction) (a b d : ℕ) (rest : List ℕ) → is_two (form_of i) ≡ true → instruction_bytes i ≡ a ∷ b ∷ d ∷ rest
       → instruction_bytes (renamed q i) ≡ a ∷ q (first_wire i) ∷ q (second_wire i) ∷ rest
   two_bytes (Reset l) a b d rest n e = cc
   two_bytes (Measurement l m) a b d rest n e = cc
@@ -97,7 +97,7 @@ one_long (AngledGate k l g) = omega arith
 one_long (TwoLineGate k l m) = omega arith
 one_long (AngledTwoLineGate k l m g) = omega arith
 
-two_long : (i : Instruction) → form_of i ≡ form.Two → 3 ≤ length (instruction_bytes i)
+two_long : (i : Instruction) → is_two (form_of i) ≡ true → 3 ≤ length (instruction_bytes i)
 two_long (Reset l) n = cc
 two_long (Measurement l m) n = cc
 two_long (Gate k l) n = cc
@@ -118,8 +118,8 @@ module _ {s : List ℕ} {notes : Notes} {k : ℕ} {i : Instruction} (h : Noted s
   abbrev second : ℕ
   second = second_at notes k
 
-  abbrev is_two : Type 0
-  is_two = (note_at notes k).form ≡ form.Two
+  abbrev two : Bool
+  two = is_two (note_at notes k).form
 
   back : Back s from (Step i) next
   back = round_trip s from (step_record s from _ h.stands)
@@ -133,8 +133,8 @@ module _ {s : List ℕ} {notes : Notes} {k : ℕ} {i : Instruction} (h : Noted s
   pub noted_one : from + 2 ≤ next
   noted_one = omega (arith, noted_length, one_long i)
 
-  pub noted_two : is_two → from + 3 ≤ next
-  noted_two e = omega (arith, noted_length, two_long i (sym (form_noted h) ∙ e))
+  pub noted_two : two ≡ true → from + 3 ≤ next
+  noted_two e = omega (arith, noted_length, two_long i (sym (two_noted h) ∙ e))
 
   from_one : instruction_bytes i ≡ get_or s from 0 ∷ get_or s (from + 1) 0 ∷ behind s (from + 2) next
   from_one =
@@ -145,25 +145,25 @@ module _ {s : List ℕ} {notes : Notes} {k : ℕ} {i : Instruction} (h : Noted s
       ∙ ap (λ z. get_or s from 0 ∷ z) (behind_first s (from + 1) next (omega arith) w ∙ ap (λ z. get_or s (from + 1) 0 ∷ behind s z next) at)
 
   module _ (q : ℕ → ℕ) where
-    renamed_one : (is_two → ⊥) → instruction_bytes (renamed q i) ≡ get_or s from 0 ∷ q first ∷ behind s (from + 2) next
-    renamed_one n = one_bytes q i _ _ _ (λ e. n (form_noted h ∙ e)) from_one ∙ ap (λ z. get_or s from 0 ∷ q z ∷ behind s (from + 2) next) (sym (first_noted h))
+    renamed_one : two ≡ false → instruction_bytes (renamed q i) ≡ get_or s from 0 ∷ q first ∷ behind s (from + 2) next
+    renamed_one n = one_bytes q i _ _ _ (sym (two_noted h) ∙ n) from_one ∙ ap (λ z. get_or s from 0 ∷ q z ∷ behind s (from + 2) next) (sym (first_noted h))
 
-    renamed_two : is_two → instruction_bytes (renamed q i) ≡ get_or s from 0 ∷ q first ∷ q second ∷ behind s (from + 3) next
+    renamed_two : two ≡ true → instruction_bytes (renamed q i) ≡ get_or s from 0 ∷ q first ∷ q second ∷ behind s (from + 3) next
     renamed_two e =
         let w = back.within in
         let l = noted_two e in
         let at : from + 2 + 1 ≡ from + 3 = omega arith in
         let third = behind_first s (from + 2) next (omega arith) w ∙ ap (λ z. get_or s (from + 2) 0 ∷ behind s z next) at in
-        two_bytes q i _ _ _ _ (sym (form_noted h) ∙ e) (from_one ∙ ap (λ z. get_or s from 0 ∷ get_or s (from + 1) 0 ∷ z) third)
+        two_bytes q i _ _ _ _ (sym (two_noted h) ∙ e) (from_one ∙ ap (λ z. get_or s from 0 ∷ get_or s (from + 1) 0 ∷ z) third)
         ∙ ap (λ z. get_or s from 0 ∷ q z ∷ q (second_wire i) ∷ behind s (from + 3) next) (sym (first_noted h))
         ∙ ap (λ z. get_or s from 0 ∷ q first ∷ q z ∷ behind s (from + 3) next) (sym (second_noted h))
 
     module _ {out new : List ℕ} {to stop : ℕ} where
-      pub wrote_one : {a : ℕ} → (is_two → ⊥) → a ≡ q first → Wrote out to (get_or s from 0 ∷ a ∷ behind s (from + 2) next) new stop
+      pub wrote_one : {a : ℕ} → two ≡ false → a ≡ q first → Wrote out to (get_or s from 0 ∷ a ∷ behind s (from + 2) next) new stop
           → Wrote out to (instruction_bytes (renamed q i)) new stop
       wrote_one n e w = subst (λ xs. Wrote out to xs new stop) (ap (λ z. get_or s from 0 ∷ z ∷ behind s (from + 2) next) e ∙ sym (renamed_one n)) w
 
-      pub wrote_two : {a b : ℕ} → is_two → a ≡ q first → b ≡ q second → Wrote out to (get_or s from 0 ∷ a ∷ b ∷ behind s (from + 3) next) new stop
+      pub wrote_two : {a b : ℕ} → two ≡ true → a ≡ q first → b ≡ q second → Wrote out to (get_or s from 0 ∷ a ∷ b ∷ behind s (from + 3) next) new stop
           → Wrote out to (instruction_bytes (renamed q i)) new stop
       wrote_two {a} {b} f e d w = subst (λ xs. Wrote out to xs new stop)
           (ap (λ z. get_or s from 0 ∷ z ∷ b ∷ behind s (from + 3) next) e ∙ ap (λ z. get_or s from 0 ∷ q first ∷ z ∷ behind s (from + 3) next) d ∙ sym (renamed_two f)) w

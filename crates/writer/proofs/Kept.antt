@@ -5,7 +5,7 @@ use mathlib.Core.Logic.{inl, inr, ◌⊎◌}
 use mathlib.Core.List.{List, [], ◌∷◌, ◌++◌}
 use mathlib.Core.Option.{some}
 use native.Mathlib.Omega.{arith}
-use lib.ListN.{length, get_or, get_elem?, set, length-set, length-append}
+use lib.ListN.{length, get_or, get_elem?, set, length-append}
 use lib.Dec.{ltb}
 use lib.Seq.{get_or-set_same, get_or-set_other}
 use Rattle.basics.specs.Outcome.{Outcome, done, refused}
@@ -24,7 +24,7 @@ use Rattle.circuits.proofs.Takes.{Taken}
 use Rattle.circuits.proofs.Turns.{counted-before, reads_after}
 use Rattle.table.specs.Starting.{no_rows, rows_sketched, rows_pass}
 use Rattle.table.proofs.StartRows.{pass_more, pass_over}
-use Rattle.writer.specs.Notes.{noted, note_of, note_sketched, note_at, place_at, Noted, Kept}
+use Rattle.writer.specs.Notes.{noted, note_of, note_sketched, place_at, Noted, Kept}
 use Rattle.writer.specs.declared.notes.Form.TheVariants as form
 use Rattle.writer.specs.declared.notes.Notes.{Notes}
 

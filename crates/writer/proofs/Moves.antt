@@ -1,7 +1,7 @@
 -- After the heads of an instruction's wires were moved and tried again, what is kept of every wire is its candidate. A wire that was not tried has the
 -- candidate that it had, since its head's wires and its lender are none of those that were moved, or were moved to where it may not be written. Assumes
 -- nothing.
-use Prim.Native.Nat.{ℕ, ◌≤◌, ◌<◌}
+use Prim.Native.Nat.{ℕ, ◌<◌}
 use mathlib.Core.Path.{◌≡◌, refl, sym, ap, subst, ◌∙◌}
 use mathlib.Core.Logic.{inl, inr, ◌⊎◌, ◌≢◌}
 use mathlib.Core.Bool.{true, false}
@@ -12,8 +12,8 @@ use Rattle.basics.specs.Choice.{pick}
 use Rattle.basics.proofs.Tests.{same_or_other, true_or_false, not_both, refuted}
 use Rattle.circuits.specs.Limits.{most_wires}
 use Rattle.pairs.specs.Lending.{lender_of, takes}
-use Rattle.writer.specs.Notes.{note_at, first_at, second_at}
-use Rattle.writer.specs.Heads.{is_reset, headed, candidate, candidate_of, tried_both}
+use Rattle.writer.specs.Notes.{is_reset, note_at, first_at, second_at}
+use Rattle.writer.specs.Heads.{headed, candidate, candidate_of, tried_both}
 use Rattle.writer.specs.declared.source.Source.{Source}
 use Rattle.writer.proofs.Wires.{headed_each}
 use Rattle.writer.proofs.Ready.{May, may_tells, may_holds, may_same}

@@ -26,8 +26,8 @@ use Rattle.precedence.specs.Precedence.{holds, at, on, meas_of, circuit_of, Wire
 use Rattle.precedence.proofs.Precedence.{must_exactly, prec_exactly, on-prec, spans, reset_there, meas_on, prec_meas, circuit_lawful}
 use Rattle.precedence.proofs.Spans.{at_inside}
 use Rattle.pairs.specs.Lending.{lender_of, takes, pairs_of}
-use Rattle.writer.specs.Notes.{form_of, first_wire, note_at, first_at, second_at}
-use Rattle.writer.specs.Heads.{NextOn, Tabled, is_reset, is_free, may_write, candidate}
+use Rattle.writer.specs.Notes.{is_reset, form_of, first_wire, note_at, first_at, second_at}
+use Rattle.writer.specs.Heads.{NextOn, Tabled, is_free, may_write, candidate}
 use Rattle.writer.specs.declared.source.Source.{Source}
 use Rattle.writer.proofs.Wires.{first_in, second_in, wire_on, on_wire, there, first_tabled, second_tabled, reset_tabled}
 use Rattle.writer.proofs.Pairs.{pair_in, pair_says}

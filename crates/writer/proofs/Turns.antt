@@ -33,12 +33,12 @@ use Rattle.precedence.proofs.Precedence.{read_wired, circuit_lawful}
 use Rattle.pairs.specs.Lending.{pairs_of}
 use Rattle.writer.specs.Chains.{qubit_of}
 use Rattle.writer.specs.Outputs.{renamed, in_order, dynamic_in, Renames}
-use Rattle.writer.specs.Notes.{form_of, first_wire, second_wire, note_at, first_at, second_at, place_at, Noted}
-use Rattle.writer.specs.Heads.{Faithful, NextOn, Tabled, after_at, Linked, headed, is_reset, candidate, candidate_of, tried_below, tried_both, Least}
+use Rattle.writer.specs.Notes.{is_reset, form_of, first_wire, second_wire, note_at, first_at, second_at, place_at, Noted}
+use Rattle.writer.specs.Heads.{Faithful, NextOn, Tabled, after_at, Linked, headed, candidate, candidate_of, tried_below, tried_both, Least}
 use Rattle.writer.specs.declared.heads.After.{After}
 use Rattle.writer.specs.declared.heads.Heads.{Heads}
 use Rattle.writer.specs.declared.source.Source.{Source}
-use Rattle.writer.proofs.Wires.{first_in, second_in, headed_each, there, wire_on, wire_off, on_wire, first_noted, second_noted, form_noted}
+use Rattle.writer.proofs.Wires.{first_in, second_in, headed_each, there, wire_on, wire_off, on_wire, first_noted, second_noted, reset_noted}
 use Rattle.writer.proofs.Ready.{Head, head_first, head_kept, head_moved, may-ready, ready_head, ready_may, may_tells}
 use Rattle.writer.proofs.Copies.{noted_length, renamed-length}
 use Rattle.writer.proofs.Moves.{moves_right}
@@ -295,7 +295,7 @@ module _ (s : Source) (faithful : Faithful s) where
         resets k l r =
             let i = there is k (omega (arith, a.instructions)) in
             let n = noted k i.0 i.1 in
-            first_noted n ∙ reset_wire i.0 (sym (ap is_reset (form_noted n)) ∙ r) ∙ sym (second_noted n)
+            first_noted n ∙ reset_wire i.0 (sym (reset_noted n) ∙ r) ∙ sym (second_noted n)
 
         below_width : (k : ℕ) → k < s.valid.instructions → first_at s.notes.now k < s.valid.width
         below_width k l =

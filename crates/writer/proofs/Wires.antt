@@ -6,7 +6,6 @@ use mathlib.Core.Bool.{true, false}
 use mathlib.Core.List.{List, [], ◌∷◌}
 use mathlib.Core.Option.{some}
 use native.Mathlib.Omega.{arith}
-use denote.Enum.Bare.{sameb}
 use lib.ListN.{length, get_or, get_elem?, set, length-set}
 use lib.Seq.{get_or-set_same, get_or-set_other, lt-length-set}
 use Rattle.basics.proofs.Tests.{same_or_other, refuted}
@@ -16,11 +15,8 @@ use Rattle.records.specs.declared.instructions.Instruction.{Instruction}
 use Rattle.records.specs.declared.instructions.Instruction.TheVariants.{Reset, Measurement, Gate, AngledGate, TwoLineGate, AngledTwoLineGate}
 use Rattle.precedence.specs.Lives.{lines_of, touches}
 use Rattle.precedence.specs.Precedence.{holds, on}
-use Rattle.writer.specs.Notes.{form_of, first_wire, second_wire, note_at, first_at, second_at, Noted}
-use Rattle.writer.specs.Heads.{is_reset, Tabled, headed}
-use Rattle.writer.specs.contracts.notes.Form.{the_type}
-use Rattle.writer.specs.declared.notes.Form.{Form}
-use Rattle.writer.specs.declared.notes.Form.TheVariants as form
+use Rattle.writer.specs.Notes.{is_reset, is_two, form_of, first_wire, second_wire, note_at, first_at, second_at, Noted}
+use Rattle.writer.specs.Heads.{Tabled, headed}
 use Rattle.writer.specs.declared.notes.Note.{Note}
 use Rattle.writer.specs.declared.notes.Notes.{Notes}
 use Rattle.writer.specs.declared.source.Source.{Source}
@@ -79,12 +75,6 @@ module _ (is : List Instruction) (k : ℕ) {i : Instruction} (e : get_elem? is k
 
 -- ## What is kept of an instruction
 
--- the comparison with the form of resets
-pub reset_told : (f : Form) → sameb the_type f form.Reset ≡ is_reset f
-reset_told form.Reset = refl
-reset_told form.One = refl
-reset_told form.Two = refl
-
 module _ {is : List Instruction} {s : Source} (tab : Tabled is s) (k : ℕ) (i : Instruction) (e : get_elem? is k ≡ some i) where
   pub first_tabled : first_at s.notes.now k ≡ first_wire i
   first_tabled = ap (λ (z : Note). z.first.0) (tab.note k i e)
@@ -102,8 +92,11 @@ module _ {s : List ℕ} {notes : Notes} {k : ℕ} {i : Instruction} (n : Noted s
   pub second_noted : second_at notes k ≡ second_wire i
   second_noted = ap (λ (z : Note). z.second.0) n.note
 
-  pub form_noted : (note_at notes k).form ≡ form_of i
-  form_noted = ap (λ (z : Note). z.form) n.note
+  pub two_noted : is_two (note_at notes k).form ≡ is_two (form_of i)
+  two_noted = ap (λ (z : Note). is_two z.form) n.note
+
+  pub reset_noted : is_reset (note_at notes k).form ≡ is_reset (form_of i)
+  reset_noted = ap (λ (z : Note). is_reset z.form) n.note
 
 -- ## What is kept of the wires
 

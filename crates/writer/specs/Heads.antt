@@ -11,9 +11,7 @@ use Rattle.circuits.specs.Reading.{read_circuit, summary}
 use Rattle.circuits.specs.Rewriting.{steps_of}
 use Rattle.precedence.specs.Precedence.{on}
 use Rattle.pairs.specs.Lending.{lender_of, takes}
-use Rattle.writer.specs.Notes.{note_of, first_wire, second_wire, note_at, first_at, second_at, Kept}
-use Rattle.writer.specs.declared.notes.Form.{Form}
-use Rattle.writer.specs.declared.notes.Form.TheVariants as form
+use Rattle.writer.specs.Notes.{is_reset, note_of, first_wire, second_wire, note_at, first_at, second_at, Kept}
 use Rattle.writer.specs.declared.heads.After.{After}
 use Rattle.writer.specs.declared.source.Source.{Source}
 
@@ -52,11 +50,6 @@ abbrev pub headed : ℕ → ℕ → ℕ → ℕ → List ℕ → List ℕ
 headed first second n m kept = set (set kept first n) second m
 
 -- ## What may be written
-
-abbrev pub is_reset : Form → Bool
-is_reset form.Reset = true
-is_reset form.One = false
-is_reset form.Two = false
 
 module _ (s : Source) (indices : List ℕ) where
   -- a wire's head has an index

@@ -1,5 +1,5 @@
 -- What is kept of each instruction by its index: its form, its wires and the places between which it stands. Definitions alone.
-use Rattle.std.specs.Prelude.{ℕ, ◌+◌, ◌-◌, ◌≡◌, List, get_or}
+use Rattle.std.specs.Prelude.{ℕ, ◌+◌, ◌-◌, ◌≡◌, Bool, true, false, List, get_or}
 use Rattle.std.proofs.Math.Option.{some}
 use Rattle.std.proofs.Math.ListN.{get_elem?}
 use Rattle.basics.specs.Outcome.{done}
@@ -24,6 +24,16 @@ form_of (Gate k l) = form.One
 form_of (AngledGate k l a) = form.One
 form_of (TwoLineGate k l m) = form.Two
 form_of (AngledTwoLineGate k l m a) = form.Two
+
+abbrev pub is_reset : Form → Bool
+is_reset form.Reset = true
+is_reset form.One = false
+is_reset form.Two = false
+
+abbrev pub is_two : Form → Bool
+is_two form.Reset = false
+is_two form.One = false
+is_two form.Two = true
 
 -- the first wire, and the second, which is the only one again where there is no other
 abbrev pub first_wire : Instruction → ℕ

@@ -7,7 +7,6 @@ ghost use Rattle.writer.specs.Notes.{first_at, second_at};
 ghost use Rattle.writer.specs.Heads.{after_at, headed, is_free, may_write, tried, tried_below, tried_takers, tried_moved, tried_both, Least, Tabled, Linked};
 
 use crate::heads::{After, Heads};
-use crate::notes::Form;
 use crate::seeking::{link, of_wire, set_head, set_heads};
 use crate::source::Source;
 use circuits::Circuit;
@@ -16,9 +15,10 @@ use records::Wire;
 impl Heads {
     // Whether a wire takes from nobody, or all on its lender is written.
     fn is_free(&self, source: &Source, wire: Wire) -> bool
+        requires { wire.0 < most_wires }
         ensures { result ≡ is_free source.now self.now.indices wire.0 }
     {
-        let lender = source.lenders.lender_of(wire);
+        let lender = source.lender(wire);
         if lender.0 < source.valid.width {
             return of_wire(&self.indices, lender) as usize == source.valid.instructions;
         }
@@ -37,7 +37,7 @@ impl Heads {
         if of_wire(&self.indices, note.second) != index {
             return false;
         }
-        if note.form == Form::Reset {
+        if note.form.is_reset() {
             return self.is_free(source, note.first);
         }
         true
@@ -76,7 +76,7 @@ impl Heads {
         ensures candidates_after { self.new.candidates ≡ tried_takers source.now self.old.indices lender.0 source.now.valid.width self.old.candidates }
     {
         for x in 0..source.valid.width {
-            if source.lenders.lender_of(Wire(x)).0 == lender.0 {
+            if source.lender(Wire(x)).0 == lender.0 {
                 self.try_head(source, Wire(x));
             }
         }

@@ -6,7 +6,6 @@ ghost use Rattle.records.specs.declared.instructions.Instruction.{Instruction};
 ghost use Rattle.writer.specs.Notes.{place_at, Noted};
 ghost use Rattle.writer.specs.Outputs.{renamed, behind};
 
-use crate::notes::Form;
 use crate::renaming::Renaming;
 use crate::source::Source;
 use records::Qubit;
@@ -67,7 +66,7 @@ pub(crate) fn copy_renamed(
     let next = source.place_after(index);
     let note = source.note(index);
     let first = renaming.qubit(note.first);
-    if note.form == Form::Two {
+    if note.form.is_two() {
         copy_two(
             source.circuit,
             from,

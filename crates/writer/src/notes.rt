@@ -34,8 +34,31 @@ pub(crate) struct Notes {
     ghost header: { get_or places 0 0 ≡ header_length },
 }
 
+impl Form {
+    ghost use Rattle.writer.specs.Notes.{is_reset, is_two};
+
+    pub fn is_reset(self) -> bool
+        ensures { result ≡ is_reset self }
+    {
+        self == Form::Reset
+    }
+
+    pub fn is_two(self) -> bool
+        ensures { result ≡ is_two self }
+    {
+        self == Form::Two
+    }
+}
+
 impl Note {
     ghost use Rattle.writer.specs.Notes.{note_sketched};
+
+    // Of no instruction.
+    pub const NONE: Note = Note {
+        form: Form::Reset,
+        first: Wire(0),
+        second: Wire(0),
+    };
 
     fn on_one(form: Form, only: Wire) -> Note
         ensures { (result.form ≡ form) × (result.first ≡ only) × (result.second ≡ only) }
@@ -68,12 +91,14 @@ impl Notes {
     ghost use Rattle.circuits.specs.Limits.{deciding_bytes};
     ghost use Rattle.writer.specs.Notes.{note_sketched};
 
-    // Of no instruction anything yet.
+    // Of no instruction yet. All but the first place is 0, so that nothing is filled twice and copied.
     pub fn none() -> Notes {
-        Notes {
-            all: [Note::on_one(Form::One, Wire(0)); Circuit::MOST_INSTRUCTIONS],
-            places: [Circuit::HEADER as u16; Circuit::MOST_INSTRUCTIONS + 1],
-        }
+        let mut notes = Notes {
+            all: [Note::NONE; Circuit::MOST_INSTRUCTIONS],
+            places: [0; Circuit::MOST_INSTRUCTIONS + 1],
+        };
+        notes.places[0] = Circuit::HEADER as u16;
+        notes
     }
 
     // Keeps the form and the wires of an instruction, and the place after it.

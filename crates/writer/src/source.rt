@@ -6,6 +6,7 @@ ghost use Rattle.writer.specs.Notes.{first_at, second_at};
 use crate::notes::{Note, Notes};
 use circuits::Circuit;
 use pairs::Lenders;
+use records::Wire;
 
 #[derive(Clone, Copy)]
 pub(crate) struct Source<'a> {
@@ -21,7 +22,16 @@ pub(crate) struct Source<'a> {
 
 impl<'a> Source<'a> {
     ghost use Rattle.std.specs.Prelude.{◌+◌};
+    ghost use Rattle.pairs.specs.Lending.{lender_of};
     ghost use Rattle.writer.specs.Notes.{note_at, place_at};
+
+    // The lender of a wire; read where it stands, since `lender_of` copies all.
+    pub fn lender(&self, wire: Wire) -> Wire
+        requires { wire.0 < most_wires }
+        ensures { result.0 ≡ lender_of self.now.lenders.lenders wire.0 }
+    {
+        Wire(self.lenders.lenders[wire.0 as usize])
+    }
 
     // What is kept of an instruction.
     pub fn note(&self, index: usize) -> Note

@@ -1,6 +1,5 @@
 -- `writer::heads::Heads::try_all` meets its contract: before turn x the heads of the wires below x are tried. Assumes nothing.
-use mathlib.Core.Path.{◌≡◌, refl, ◌∙◌}
-use native.Mathlib.Omega.{arith}
+use mathlib.Core.Path.{refl, ◌∙◌}
 use native.Mathlib.Numerals.{add-one}
 use Rattle.writer.specs.Heads.{tried_below}
 use Rattle.writer.proofs.heads.Heads.try_all.Goals as goal

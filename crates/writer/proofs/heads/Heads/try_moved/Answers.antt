@@ -1,5 +1,4 @@
 -- `writer::heads::Heads::try_moved` meets its contract. Assumes nothing.
-use mathlib.Core.Path.{◌≡◌}
 use native.Mathlib.Omega.{arith}
 use borrow.Author.Tests.{le-leb, lt-leb}
 use Rattle.writer.specs.Heads.{tried_moved}
