@@ -1,5 +1,5 @@
 // Chains: the first wire of a wire's chain, how many chains begin below a wire or below each, and how many there are.
-ghost use Rattle.std.specs.Prelude.{◌≡◌};
+ghost use Rattle.std.specs.Prelude.{◌≡◌, ◌≤◌};
 ghost use Rattle.bits.specs.Bits.{each};
 ghost use Rattle.circuits.specs.Limits.{most_wires};
 ghost use Rattle.writer.specs.Chains.{first_of, begins, firsts_below, qubits};
@@ -9,53 +9,50 @@ use pairs::Lenders;
 use records::Wire;
 
 // The first wire of a wire's chain.
+#[tactic(auto, unfolding(crate::specs::Chains::first_from))]
 pub fn first_of(lenders: Lenders, width: u8, wire: Wire) -> Wire
     ensures { result.0 ≡ first_of lenders.lenders width wire.0 }
 {
-    let mut first = wire.0;
-    let mut left = width;
-    while 0 < left {
-        if lenders.takes(width, Wire(first)) {
-            first = lenders.lender_of(Wire(first)).0;
-            left -= 1;
-        } else {
-            return Wire(first);
+    let mut first = wire;
+    for _turn in 0..width {
+        if !lenders.takes(width, first) {
+            return first;
         }
+        first = lenders.lender_of(first);
     }
-    Wire(first)
+    first
 }
 
 // 1 where a chain begins at a wire, else 0.
 fn begins(lenders: Lenders, width: u8, wire: Wire) -> u8
-    ensures { result ≡ begins lenders.lenders width wire.0 }
+    ensures value { result ≡ begins lenders.lenders width wire.0 }
+    ensures few { result ≤ 1 }
 {
     if lenders.takes(width, wire) { 0 } else { 1 }
 }
 
 // How many first wires are lower than a wire.
+#[tactic(auto, unfolding(crate::specs::Chains::firsts_below))]
 pub fn firsts_below(lenders: Lenders, width: u8, wire: Wire) -> u8
     ensures { result ≡ firsts_below lenders.lenders width wire.0 }
 {
     let mut count: u8 = 0;
-    let mut x: u8 = 0;
-    while x < wire.0 {
+    for x in 0..wire.0 {
         count += begins(lenders, width, Wire(x));
-        x += 1;
     }
     count
 }
 
 // How many first wires are lower than each wire, in one pass.
+#[tactic(auto, using(bits::proofs::Lists::each_eq), unfolding(crate::specs::Chains::firsts_below))]
 pub fn all_firsts_below(lenders: Lenders, width: u8) -> [u8; Circuit::MOST_WIRES]
     ensures { result ≡ each most_wires (firsts_below lenders.lenders width) }
 {
     let mut counts = [0; Circuit::MOST_WIRES];
     let mut count: u8 = 0;
-    let mut x: u8 = 0;
-    while (x as usize) < Circuit::MOST_WIRES {
-        counts[x as usize] = count;
-        count += begins(lenders, width, Wire(x));
-        x += 1;
+    for x in 0..Circuit::MOST_WIRES {
+        counts[x] = count;
+        count += begins(lenders, width, Wire(x as u8));
     }
     counts
 }

@@ -14,6 +14,7 @@ use records::Wire;
 
 impl Heads {
     // Whether a wire takes from nobody, or all on its lender is written.
+    #[tactic(auto, using(std::proofs::lemmas::Bool::Decides::nat_tests), unfolding(crate::specs::Heads::is_free))]
     fn is_free(&self, source: &Source, wire: Wire) -> bool
         requires { wire.0 < most_wires }
         ensures { result ≡ is_free source.now self.now.indices wire.0 }
@@ -26,6 +27,7 @@ impl Heads {
     }
 
     // Whether an instruction is the head of each of its wires, and the wire of a reset is free.
+    #[tactic(auto, using(std::proofs::lemmas::Bool::Decides::nat_tests), unfolding(crate::specs::Heads::may_write))]
     fn may_write(&self, source: &Source, index: u16) -> bool
         requires { index < source.now.valid.instructions }
         ensures { result ≡ may_write source.now self.now.indices index }
@@ -44,6 +46,7 @@ impl Heads {
     }
 
     // Tests the head of a wire again and keeps what is found, for every wire of a head that may be written.
+    #[tactic(auto, using(std::proofs::lemmas::Bool::Decides::nat_tests), unfolding(crate::specs::Heads::tried, crate::specs::Heads::candidate))]
     fn try_head(&mut self, source: &Source, wire: Wire)
         requires { wire.0 < most_wires }
         ensures same_indices { self.new.indices ≡ self.old.indices }
@@ -61,6 +64,7 @@ impl Heads {
     }
 
     // Tests the heads of all wires.
+    #[tactic(auto, unfolding(crate::specs::Heads::tried_below))]
     fn try_all(&mut self, source: &Source)
         ensures same_indices { self.new.indices ≡ self.old.indices }
         ensures candidates_after { self.new.candidates ≡ tried_below source.now self.old.indices source.now.valid.width self.old.candidates }
@@ -71,6 +75,7 @@ impl Heads {
     }
 
     // Tests again the heads of the wires that take from a wire.
+    #[tactic(auto, using(std::proofs::lemmas::Bool::Decides::nat_tests), unfolding(crate::specs::Heads::tried_takers))]
     fn try_takers(&mut self, source: &Source, lender: Wire)
         ensures same_indices { self.new.indices ≡ self.old.indices }
         ensures candidates_after { self.new.candidates ≡ tried_takers source.now self.old.indices lender.0 source.now.valid.width self.old.candidates }
@@ -83,6 +88,7 @@ impl Heads {
     }
 
     // Tests again what a wire's head decides, after it was moved: itself and, where all on the wire is written, its takers.
+    #[tactic(auto, using(std::proofs::lemmas::Bool::Decides::nat_tests), unfolding(crate::specs::Heads::tried_moved))]
     fn try_moved(&mut self, source: &Source, wire: Wire)
         requires { wire.0 < most_wires }
         ensures same_indices { self.new.indices ≡ self.old.indices }
@@ -95,6 +101,7 @@ impl Heads {
     }
 
     // Moves the heads of an instruction's wires to what comes after it, and tests again what they decide.
+    #[tactic(auto, using(std::proofs::lemmas::Bool::Decides::nat_tests), unfolding(crate::specs::Heads::tried_both))]
     pub fn move_on(&mut self, source: &Source, index: usize, after: After)
         requires { index < source.now.valid.instructions }
         ensures indices_after { self.new.indices ≡ headed (first_at source.now.notes.now index) (second_at source.now.notes.now index) after.first after.second self.old.indices }
@@ -125,6 +132,7 @@ impl Heads {
     }
 
     // The least candidate.
+    #[tactic(auto, using(crate::proofs::Candidates::least_first, crate::proofs::Candidates::least_lower, crate::proofs::Candidates::least_other))]
     pub fn least(&self) -> u16
         ensures { Least self.now.candidates most_wires result }
     {

@@ -50,6 +50,7 @@ fn copy_two(
 }
 
 // Writes an instruction with qubits for its wires, and gives the place after it.
+#[tactic(auto, using(crate::proofs::Copies::noted_one, crate::proofs::Copies::noted_two, crate::proofs::Copies::noted_within))]
 pub(crate) fn copy_renamed(
     source: &Source,
     index: usize,

@@ -14,6 +14,7 @@ use records::{Qubit, Wire};
 const UNKNOWN: u8 = 255;
 
 // The qubit of a wire by those of the lower wires, where its lender is one of them and that one's is known.
+#[tactic(auto, using(crate::proofs::Chains::tells_first, crate::proofs::Chains::count_at))]
 fn tell(
     counts: &[u8; Circuit::MOST_WIRES],
     told: &[u8; Circuit::MOST_WIRES],
@@ -49,16 +50,15 @@ fn tell_all(
     ensures { (length result ≡ most_wires) × ((x : ℕ) → x < most_wires → Tells lenders.lenders width x (get_or result x 0)) }
 {
     let mut told = [UNKNOWN; Circuit::MOST_WIRES];
-    let mut x: u8 = 0;
-    while (x as usize) < Circuit::MOST_WIRES {
-        let qubit = tell(counts, &told, lenders, width, Wire(x));
-        told[x as usize] = qubit;
-        x += 1;
+    for x in 0..Circuit::MOST_WIRES {
+        let qubit = tell(counts, &told, lenders, width, Wire(x as u8));
+        told[x] = qubit;
     }
     told
 }
 
 // The qubit of a wire: the number of its chain, as it was told, or by the way to its first wire.
+#[tactic(auto, using(crate::proofs::Chains::tells_qubit, crate::proofs::Chains::count_at), unfolding(crate::specs::Chains::qubit_of))]
 fn qubit_of(
     told: u8,
     counts: &[u8; Circuit::MOST_WIRES],
@@ -89,16 +89,15 @@ pub struct Renaming {
 
 impl Renaming {
     // The renaming by chain.
+    #[tactic(auto, using(bits::proofs::Lists::each_eq))]
     pub fn by_chain(lenders: Lenders, width: u8) -> Renaming
         ensures { Renames lenders.lenders width result.qubits }
     {
         let counts = all_firsts_below(lenders, width);
         let told = tell_all(&counts, lenders, width);
         let mut qubits = [0; Circuit::MOST_WIRES];
-        let mut x: u8 = 0;
-        while (x as usize) < Circuit::MOST_WIRES {
-            qubits[x as usize] = qubit_of(told[x as usize], &counts, lenders, width, Wire(x)).0;
-            x += 1;
+        for x in 0..Circuit::MOST_WIRES {
+            qubits[x] = qubit_of(told[x], &counts, lenders, width, Wire(x as u8)).0;
         }
         Renaming { qubits }
     }

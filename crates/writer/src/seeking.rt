@@ -38,6 +38,7 @@ pub(crate) fn set_heads(kept: &mut [u16; Circuit::MOST_WIRES], note: Note, after
 }
 
 // Keeps for each instruction the next on its wires, from the last back, and leaves each wire's head at its first.
+#[tactic(auto, using(crate::proofs::Links::linked_none))]
 pub(crate) fn link(
     source: &Source,
     indices: &mut [u16; Circuit::MOST_WIRES],

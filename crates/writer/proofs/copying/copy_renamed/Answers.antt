@@ -1,16 +1,8 @@
 -- `writer::copying::copy_renamed` meets its contract: the bytes stored are the renamed instruction's. Assumes nothing.
 use mathlib.Core.Path.{sym, ◌∙◌}
 use lib.ListN.{get_or}
-use Rattle.writer.proofs.Copies.{noted_within, noted_one, noted_two, wrote_one, wrote_two}
+use Rattle.writer.proofs.Copies.{wrote_one, wrote_two}
 use Rattle.writer.proofs.copying.copy_renamed.Goals as goal
-
-pub copy_two-requires-clause-from_bound : goal.copy_two-requires-clause-from_bound
-copy_two-requires-clause-from_bound c = let n = c.requires.noted.1 in
-    let two = rw c.note-note.ensures at (sym c.is_two.ensures ∙ c.if-is_two.true) in
-    rw (c.place-from.ensures, c.place_after-next.ensures) (noted_two n two, noted_within n)
-
-pub copy_one-requires-clause-from_bound : goal.copy_one-requires-clause-from_bound
-copy_one-requires-clause-from_bound c = let n = c.requires.noted.1 in rw (c.place-from.ensures, c.place_after-next.ensures) (noted_one n, noted_within n)
 
 pub returns-then-is_two : goal.returns-then-is_two
 returns-then-is_two c = let two = rw c.note-note.ensures at (sym c.is_two.ensures ∙ c.if-is_two.true) in

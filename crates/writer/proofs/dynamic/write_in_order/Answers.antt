@@ -1,7 +1,7 @@
 -- `writer::dynamic::write_in_order` meets its contract: the heads and the candidates are those after what is written, and what is still to be written
 -- is the rest of the order. Assumes nothing.
 use native.Mathlib.Omega.{arith}
-use Rattle.writer.proofs.Turns.{going_start, going_end, going_stuck, going_on, chosen_there, chosen_room}
+use Rattle.writer.proofs.Turns.{going_start, going_end, going_stuck, going_on, chosen_room}
 use Rattle.writer.proofs.dynamic.write_in_order.Goals as goal
 
 pub loop-turn-init : goal.loop-turn-init
@@ -9,9 +9,6 @@ loop-turn-init c = record { faithful = c.requires.faithful; going = going_start 
 
 pub returns-then-source-index : goal.returns-then-source-index
 returns-then-source-index c = going_stuck _ _ c.loop-turn.invariant.going c.least-index.ensures (omega arith)
-
-pub copy_renamed-to-requires-clause-noted : goal.copy_renamed-to-requires-clause-noted
-copy_renamed-to-requires-clause-noted c = chosen_there _ _ c.loop-turn.invariant.going c.least-index.ensures (omega arith)
 
 pub copy_renamed-to-requires-clause-from_in_bounds : goal.copy_renamed-to-requires-clause-from_in_bounds
 copy_renamed-to-requires-clause-from_in_bounds c = chosen_room _ _ c.loop-turn.invariant.going c.least-index.ensures (omega arith) (omega arith)

