@@ -7,9 +7,9 @@ use mathlib.Core.Bool.{Bool, true, false}
 use mathlib.Core.List.{List, []}
 use native.Mathlib.Omega.{arith}
 use native.Mathlib.Numerals.{add-one}
-use lib.ListN.{length, get_or, set}
-use lib.Seq.{get_or-set_same, get_or-set_other}
+use lib.ListN.{length, get_or}
 use borrow.Author.Tests.{ltb-true}
+use Rattle.std.proofs.Common.{Option, Some, None}
 use Rattle.basics.specs.Choice.{pick}
 use Rattle.basics.proofs.Tests.{true_or_false, refuted, same_or_other, below_or_not}
 use Rattle.bits.specs.Bits.{each}
@@ -17,8 +17,9 @@ use Rattle.bits.proofs.Lists.{get_or-each}
 use Rattle.circuits.specs.Limits.{most_wires}
 use Rattle.orders.specs.Indices.{In}
 use Rattle.orders.specs.Runs.{Pair}
+use Rattle.records.specs.declared.numbers.Qubit.{Qubit}
 use Rattle.pairs.specs.Lending.{lender_of, takes, pairs_below, pairs_of}
-use Rattle.writer.specs.Chains.{first_from, first_of, begins, firsts_below, qubit_of, qubits, unknown, Falls, Tells}
+use Rattle.writer.specs.Chains.{first_from, first_of, begins, firsts_below, qubit_of, qubits, Falls, Tells}
 use Rattle.writer.specs.Chains.{Begun, Joined, same, lends, takes_from}
 use Rattle.writer.proofs.Pairs.{pairs_none, pairs_taker, pairs_first, pair_in, pair_says}
 
@@ -45,9 +46,9 @@ module _ (lenders : List ℕ) (width : ℕ) where
   -- ## Ways that lead down
 
   -- a wire that takes from nobody tells its own number
-  pub tells_first : (x n : ℕ) → takes lenders width x ≡ false → n ≡ firsts_below lenders width x → Tells lenders width x n
+  pub tells_first : (x : ℕ) (q : Qubit) → takes lenders width x ≡ false → q.0 ≡ firsts_below lenders width x → Tells lenders width x (Some q)
   unfolding qubit_of
-  tells_first x n t e = inr (e ∙ ap (firsts_below lenders width) (sym (first_here width x t)), λ steps l. first_here steps x t ∙ sym (first_here width x t))
+  tells_first x q t e = (e ∙ ap (firsts_below lenders width) (sym (first_here width x t)), λ steps l. first_here steps x t ∙ sym (first_here width x t))
 
   -- and one that takes from a lower wire what that one tells: its first wire is the same, and is reached in time
   module _ (x next : ℕ) (t : takes lenders width x ≡ true) (e : next ≡ lender_of lenders x) (lower : next < x) where
@@ -57,23 +58,11 @@ module _ (lenders : List ℕ) (width : ℕ) where
     same_first : Falls lenders width next → first_of lenders width x ≡ first_of lenders width next
     same_first falls = one_on falls width (omega (arith, ltb-true (lender_of lenders x) width t))
 
-    pub tells_on : (n : ℕ) → Tells lenders width next n → Tells lenders width x n
+    pub tells_on : (told : Option Qubit) → Tells lenders width next told → Tells lenders width x told
     unfolding qubit_of
-    tells_on n (inl u) = inl u
-    tells_on n (inr (q, falls)) =
-        inr (q ∙ ap (firsts_below lenders width) (sym (same_first falls)), λ steps l. one_on falls steps (omega arith) ∙ sym (same_first falls))
-
-  pub tells_qubit : (x n : ℕ) → Tells lenders width x n → n < unknown → n ≡ qubit_of lenders width x
-  tells_qubit x n (inl u) l = absurd (omega arith)
-  tells_qubit x n (inr (q, falls)) l = q
-
-  -- one wire more
-  pub tells_more : (told : List ℕ) (x n : ℕ) → x < length told → ((j : ℕ) → j < x → Tells lenders width j (get_or told j 0)) → Tells lenders width x n
-      → (j : ℕ) → j < x + 1 → Tells lenders width j (get_or (set told x n) j 0)
-  tells_more told x n l h t j m = elim (same_or_other j x) [
-    | inl e ↦ subst (λ (i : ℕ). Tells lenders width i (get_or (set told x n) i 0)) (sym e) (subst (Tells lenders width x) (sym (get_or-set_same told x n 0 l)) t)
-    | inr d ↦ subst (Tells lenders width j) (sym (get_or-set_other told x j n 0 d)) (h j (omega arith))
-  ]
+    tells_on None h = h
+    tells_on (Some q) (here, falls) =
+        (here ∙ ap (firsts_below lenders width) (sym (same_first falls)), λ steps l. one_on falls steps (omega arith) ∙ sym (same_first falls))
 
   -- ## Counting first wires
 

@@ -1,14 +1,11 @@
 -- Chains: which wires the pairs join, the first wire of each chain, and the qubit of each wire. The pairs are given as the lender of
 -- each taker. Definitions alone.
-use Rattle.std.specs.Prelude.{ℕ, zero, suc, ◌+◌, ◌≤◌, ◌<◌, ◌≡◌, ◌⊎◌, false, List}
+use Rattle.std.specs.Prelude.{ℕ, zero, suc, ◌+◌, ◌≤◌, ◌<◌, ◌≡◌, false, List, Option, IfSome}
 use Rattle.basics.specs.Choice.{pick}
 use Rattle.orders.specs.Indices.{In}
 use Rattle.orders.specs.Runs.{Pair}
+use Rattle.records.specs.declared.numbers.Qubit.{Qubit}
 use Rattle.pairs.specs.Lending.{lender_of, takes}
-
--- no qubit's number
-abbrev pub unknown : ℕ
-unknown = 255
 
 module _ (lenders : List ℕ) (width : ℕ) where
   -- from a wire to its lender, at most `steps` times, until one takes from nobody
@@ -37,9 +34,9 @@ module _ (lenders : List ℕ) (width : ℕ) where
   abbrev pub Falls : ℕ → Type 0
   Falls x = (steps : ℕ) → x ≤ steps → first_from steps x ≡ first_of x
 
-  -- a number tells the qubit of a wire whose way leads down, or nothing
-  abbrev pub Tells : ℕ → ℕ → Type 0
-  Tells x n = (n ≡ unknown) ⊎ ((n ≡ qubit_of x) × Falls x)
+  -- what is told of a wire is nothing, or its qubit where its way leads down
+  abbrev pub Tells : ℕ → Option Qubit → Type 0
+  Tells x told = IfSome told (λ q. (q.0 ≡ qubit_of x) × Falls x)
 
   -- how many qubits there are: one for each chain
   abbrev pub qubits : ℕ

@@ -20,10 +20,8 @@ impl Heads {
         ensures { result ≡ is_free source.now self.now.indices wire.0 }
     {
         let lender = source.lender(wire);
-        if lender.0 < source.valid.width {
-            return of_wire(&self.indices, lender) as usize == source.valid.instructions;
-        }
-        true
+        source.valid.width <= lender.0
+            || of_wire(&self.indices, lender) as usize == source.valid.instructions
     }
 
     // Whether an instruction is the head of each of its wires, and the wire of a reset is free.
@@ -33,16 +31,9 @@ impl Heads {
         ensures { result ≡ may_write source.now self.now.indices index }
     {
         let note = source.note(index as usize);
-        if of_wire(&self.indices, note.first) != index {
-            return false;
-        }
-        if of_wire(&self.indices, note.second) != index {
-            return false;
-        }
-        if note.form.is_reset() {
-            return self.is_free(source, note.first);
-        }
-        true
+        of_wire(&self.indices, note.first) == index
+            && of_wire(&self.indices, note.second) == index
+            && (!note.form.is_reset() || self.is_free(source, note.first))
     }
 
     // Tests the head of a wire again and keeps what is found, for every wire of a head that may be written.
@@ -53,14 +44,12 @@ impl Heads {
         ensures candidates_after { self.new.candidates ≡ tried source.now self.old.indices wire.0 self.old.candidates }
     {
         let index = of_wire(&self.indices, wire);
-        if (index as usize) < source.valid.instructions {
-            if self.may_write(source, index) {
-                let note = source.note(index as usize);
-                set_heads(&mut self.candidates, note, After::both(index));
-                return;
-            }
+        if (index as usize) < source.valid.instructions && self.may_write(source, index) {
+            let note = source.note(index as usize);
+            set_heads(&mut self.candidates, note, After::both(index));
+        } else {
+            set_head(&mut self.candidates, wire, source.valid.instructions as u16);
         }
-        set_head(&mut self.candidates, wire, source.valid.instructions as u16);
     }
 
     // Tests the heads of all wires.
@@ -132,15 +121,13 @@ impl Heads {
     }
 
     // The least candidate.
-    #[tactic(auto, using(crate::proofs::Candidates::least_first, crate::proofs::Candidates::least_lower, crate::proofs::Candidates::least_other))]
+    #[tactic(auto, using(crate::proofs::Candidates::least_first, crate::proofs::Candidates::least_more))]
     pub fn least(&self) -> u16
         ensures { Least self.now.candidates most_wires result }
     {
         let mut lowest = self.candidates[0];
         for x in 1..Circuit::MOST_WIRES {
-            if self.candidates[x] < lowest {
-                lowest = self.candidates[x];
-            }
+            lowest = lowest.min(self.candidates[x]);
         }
         lowest
     }

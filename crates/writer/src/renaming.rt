@@ -1,5 +1,5 @@
 // The renaming by chain: the only way from wire to qubit.
-ghost use Rattle.std.specs.Prelude.{◌≡◌, ℕ, ◌<◌, get_or, length};
+ghost use Rattle.std.specs.Prelude.{◌≡◌, ℕ, ◌<◌, None, get_or};
 ghost use Rattle.bits.specs.Bits.{each};
 ghost use Rattle.circuits.specs.Limits.{most_wires};
 ghost use Rattle.writer.specs.Chains.{firsts_below, qubit_of, Tells};
@@ -10,22 +10,17 @@ use circuits::Circuit;
 use pairs::Lenders;
 use records::{Qubit, Wire};
 
-// No qubit's number.
-const UNKNOWN: u8 = 255;
-
 // The qubit of a wire by those of the lower wires, where its lender is one of them and that one's is known.
-#[tactic(auto, using(crate::proofs::Chains::tells_first, crate::proofs::Chains::count_at))]
 fn tell(
     counts: &[u8; Circuit::MOST_WIRES],
-    told: &[u8; Circuit::MOST_WIRES],
+    told: &[Option<Qubit>; Circuit::MOST_WIRES],
     lenders: Lenders,
     width: u8,
     wire: Wire,
-) -> u8
+) -> Option<Qubit>
     requires wire_lt_most_wires { wire.0 < most_wires }
-    requires told_len { length told.now ≡ most_wires }
     requires counts_value { counts.now ≡ each most_wires (firsts_below lenders.lenders width) }
-    requires by_index { (x : ℕ) → x < wire.0 → Tells lenders.lenders width x (get_or told.now x 0) }
+    requires by_index { (x : ℕ) → x < wire.0 → Tells lenders.lenders width x (get_or told.now x None) }
     ensures { Tells lenders.lenders width wire.0 result }
 {
     if lenders.takes(width, wire) {
@@ -33,10 +28,10 @@ fn tell(
         if lender.0 < wire.0 {
             told[lender.0 as usize]
         } else {
-            UNKNOWN
+            None
         }
     } else {
-        counts[wire.0 as usize]
+        Some(Qubit(counts[wire.0 as usize]))
     }
 }
 
@@ -45,11 +40,11 @@ fn tell_all(
     counts: &[u8; Circuit::MOST_WIRES],
     lenders: Lenders,
     width: u8,
-) -> [u8; Circuit::MOST_WIRES]
+) -> [Option<Qubit>; Circuit::MOST_WIRES]
     requires { counts.now ≡ each most_wires (firsts_below lenders.lenders width) }
-    ensures { (length result ≡ most_wires) × ((x : ℕ) → x < most_wires → Tells lenders.lenders width x (get_or result x 0)) }
+    ensures { (x : ℕ) → x < most_wires → Tells lenders.lenders width x (get_or result x None) }
 {
-    let mut told = [UNKNOWN; Circuit::MOST_WIRES];
+    let mut told = [None; Circuit::MOST_WIRES];
     for x in 0..Circuit::MOST_WIRES {
         let qubit = tell(counts, &told, lenders, width, Wire(x as u8));
         told[x] = qubit;
@@ -58,9 +53,9 @@ fn tell_all(
 }
 
 // The qubit of a wire: the number of its chain, as it was told, or by the way to its first wire.
-#[tactic(auto, using(crate::proofs::Chains::tells_qubit, crate::proofs::Chains::count_at), unfolding(crate::specs::Chains::qubit_of))]
+#[tactic(auto, using(crate::proofs::Chains::count_at), unfolding(crate::specs::Chains::qubit_of))]
 fn qubit_of(
-    told: u8,
+    told: Option<Qubit>,
     counts: &[u8; Circuit::MOST_WIRES],
     lenders: Lenders,
     width: u8,
@@ -70,8 +65,8 @@ fn qubit_of(
     requires counts_value { counts.now ≡ each most_wires (firsts_below lenders.lenders width) }
     ensures { result.0 ≡ qubit_of lenders.lenders width wire.0 }
 {
-    if told < UNKNOWN {
-        return Qubit(told);
+    if let Some(qubit) = told {
+        return qubit;
     }
     let first = first_of(lenders, width, wire);
     let at = first.0 as usize;
