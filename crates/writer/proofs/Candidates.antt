@@ -10,7 +10,6 @@ use lib.ListN.{length, get_or, set, length-set}
 use lib.Seq.{get_or-set_same, get_or-set_other}
 use lib.Dec.{eqb, leb}
 use borrow.Author.Tests.{eqb-true, eq-eqb, le-leb}
-use Rattle.std.proofs.Common.{min}
 use Rattle.basics.proofs.Tests.{same_or_other, below_or_not, true_or_false, not_both}
 use Rattle.circuits.specs.Limits.{most_wires}
 use Rattle.pairs.specs.Lending.{lender_of}
@@ -25,30 +24,19 @@ use Rattle.writer.proofs.Ready.{may_tells, may_same}
 pub least_first : (kept : List ℕ) → Least kept 1 (get_or kept 0 0)
 least_first kept = record { one = (0, omega arith, refl); least = λ x l. (let e : x ≡ 0 = omega arith in let r = ap (λ z. get_or kept z 0) e in omega arith) }
 
-module _ {kept : List ℕ} {x lowest : ℕ} (g : Least kept x lowest) where
-  least_lower : get_or kept x 0 < lowest → Least kept (x + 1) (get_or kept x 0)
-  least_lower h = record {
-    one = (x, omega arith, refl);
-    least = λ y l. elim (same_or_other y x) [
-      | inl e ↦ (let r = ap (λ z. get_or kept z 0) e in omega arith)
-      | inr d ↦ (let r = g.least y (omega arith) in omega arith)
-    ];
-  }
-
-  least_other : lowest ≤ get_or kept x 0 → Least kept (x + 1) lowest
-  least_other h = record {
-    one = (g.one.0, omega (arith, g.one.1), g.one.2);
-    least = λ y l. elim (same_or_other y x) [
-      | inl e ↦ (let r = ap (λ z. get_or kept z 0) e in omega arith)
-      | inr d ↦ g.least y (omega arith)
-    ];
-  }
-
-  pub least_more : {new : ℕ} → new ≡ min lowest (get_or kept x 0) → Least kept (x + 1) new
-  least_more e = elim (below_or_not (get_or kept x 0) lowest) [
-    | inl l ↦ subst (Least kept (x + 1)) (sym (omega arith)) (least_lower l)
-    | inr l ↦ subst (Least kept (x + 1)) (sym (omega arith)) (least_other l)
-  ]
+-- one number more: the lower of the two
+pub least_more : {kept : List ℕ} {x lowest new : ℕ} → Least kept x lowest → new ≤ lowest → new ≤ get_or kept x 0
+    → (new < lowest → get_or kept x 0 ≡ new) → Least kept (x + 1) new
+least_more {kept} {x} {lowest} {new} g under below same = record {
+  one = elim (below_or_not new lowest) [
+    | inl l ↦ (x, omega arith, same l)
+    | inr l ↦ (g.one.0, omega (arith, g.one.1), omega (arith, g.one.2))
+  ];
+  least = λ y l. elim (same_or_other y x) [
+    | inl e ↦ (let r = ap (λ z. get_or kept z 0) e in omega arith)
+    | inr d ↦ (let r = g.least y (omega arith) in omega arith)
+  ];
+}
 
 -- ## The candidates after a head was tried
 

@@ -3,14 +3,12 @@
 use Prim.Native.Nat.{ℕ, zero, suc, ◌+◌, ◌-◌, ◌≤◌, ◌<◌}
 use mathlib.Core.Path.{◌≡◌, refl, sym, ap, subst, ◌∙◌}
 use mathlib.Core.Logic.{inl, inr, ◌↔◌}
-use mathlib.Core.Bool.{Bool, true, false}
+use mathlib.Core.Bool.{true, false}
 use mathlib.Core.List.{List, []}
 use native.Mathlib.Omega.{arith}
-use native.Mathlib.Numerals.{add-one}
 use lib.ListN.{length, get_or}
 use borrow.Author.Tests.{ltb-true}
 use Rattle.std.proofs.Common.{Option, Some, None}
-use Rattle.basics.specs.Choice.{pick}
 use Rattle.basics.proofs.Tests.{true_or_false, refuted, same_or_other, below_or_not}
 use Rattle.bits.specs.Bits.{each}
 use Rattle.bits.proofs.Lists.{get_or-each}
@@ -19,7 +17,7 @@ use Rattle.orders.specs.Indices.{In}
 use Rattle.orders.specs.Runs.{Pair}
 use Rattle.records.specs.declared.numbers.Qubit.{Qubit}
 use Rattle.pairs.specs.Lending.{lender_of, takes, pairs_below, pairs_of}
-use Rattle.writer.specs.Chains.{first_from, first_of, begins, firsts_below, qubit_of, qubits, Falls, Tells}
+use Rattle.writer.specs.Chains.{first_from, first_of, firsts_below, qubit_of, qubits, Falls, Tells}
 use Rattle.writer.specs.Chains.{Begun, Joined, same, lends, takes_from}
 use Rattle.writer.proofs.Pairs.{pairs_none, pairs_taker, pairs_first, pair_in, pair_says}
 
@@ -69,17 +67,6 @@ module _ (lenders : List ℕ) (width : ℕ) where
   pub firsts_none : firsts_below lenders width 0 ≡ 0
   unfolding firsts_below
   firsts_none = refl
-
-  pub firsts_more : (x count : ℕ) → count ≡ firsts_below lenders width x → count + begins lenders width x ≡ firsts_below lenders width (x + 1)
-  unfolding firsts_below
-  firsts_more x count e = rw (add-one, e)
-
-  pub begins_few : (x : ℕ) → begins lenders width x ≤ 1
-  begins_few x = go (takes lenders width x)
-    where
-      go : (b : Bool) → pick b 0 1 ≤ 1
-      go true = omega arith
-      go false = omega arith
 
   pub count_at : (counts : List ℕ) → counts ≡ each most_wires (firsts_below lenders width) → (x : ℕ) → x < most_wires → get_or counts x 0 ≡ firsts_below lenders width x
   count_at counts e x l = ap (λ (xs : List ℕ). get_or xs x 0) e ∙ get_or-each most_wires (firsts_below lenders width) x l

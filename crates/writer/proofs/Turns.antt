@@ -22,7 +22,7 @@ use Rattle.records.specs.Bytes.{instruction_bytes}
 use Rattle.records.specs.Records.{line}
 use Rattle.records.specs.declared.instructions.Instruction.{Instruction}
 use Rattle.records.specs.declared.instructions.Instruction.TheVariants.{Reset, Measurement, Gate, AngledGate, TwoLineGate, AngledTwoLineGate}
-use Rattle.circuits.specs.Limits.{most_wires, most_instructions}
+use Rattle.circuits.specs.Limits.{most_wires}
 use Rattle.circuits.specs.Reading.{read_circuit}
 use Rattle.circuits.specs.Validity.{steps_bytes}
 use Rattle.circuits.specs.Rewriting.{steps_of}
@@ -34,7 +34,7 @@ use Rattle.pairs.specs.Lending.{pairs_of}
 use Rattle.writer.specs.Chains.{qubit_of}
 use Rattle.writer.specs.Outputs.{renamed, in_order, dynamic_in, Renames}
 use Rattle.writer.specs.Notes.{is_reset, form_of, first_wire, second_wire, note_at, first_at, second_at, place_at, Noted}
-use Rattle.writer.specs.Heads.{Faithful, NextOn, Tabled, after_at, Linked, headed, candidate, candidate_of, tried_below, tried_both, Least}
+use Rattle.writer.specs.Heads.{TrueSource, NextOn, Tabled, after_at, Linked, headed, candidate, candidate_of, tried_below, tried_both, Least}
 use Rattle.writer.specs.declared.heads.After.{After}
 use Rattle.writer.specs.declared.heads.Heads.{Heads}
 use Rattle.writer.specs.declared.source.Source.{Source}
@@ -113,9 +113,9 @@ reset_wire (AngledTwoLineGate k l m a) h = cc
 
 -- ## The turns
 
-module _ (s : Source) (faithful : Faithful s) where
+module _ (s : Source) (told : TrueSource s) where
   abbrev a : Accepted s.circuit.now s.valid
-  a = accepted s.circuit.now faithful.valid
+  a = accepted s.circuit.now told.valid
 
   abbrev is : List Instruction
   is = a.circuit.steps
@@ -134,7 +134,7 @@ module _ (s : Source) (faithful : Faithful s) where
 
   -- what is kept of an instruction
   noted : (k : ℕ) (i : Instruction) → get_elem? is k ≡ some i → Noted s.circuit.now s.notes.now k i
-  noted k i e = faithful.kept.each k i (subst (λ z. get_elem? z k ≡ some i) (sym (ap steps_of a.is)) e)
+  noted k i e = told.kept.each k i (subst (λ z. get_elem? z k ≡ some i) (sym (ap steps_of a.is)) e)
 
   wire_low : (k : ℕ) {i : Instruction} → get_elem? is k ≡ some i → (x : ℕ) → In x (lines_of i) → x < a.circuit.width
   wire_low k e x h = ltb-true x a.circuit.width (wired.named x k (wire_on is k e x h))
@@ -235,9 +235,6 @@ module _ (s : Source) (faithful : Faithful s) where
       ]
 
       module _ (b : index < s.valid.instructions) where
-        pub chosen_below : index < most_instructions
-        chosen_below = omega (arith, a.instructions, s.few)
-
         chosen_inside : index < length is
         chosen_inside = omega (arith, a.instructions)
 
@@ -288,9 +285,6 @@ module _ (s : Source) (faithful : Faithful s) where
             let fits = simp length-append at (remaining_fits (comes_first (left - 1) (omega arith))) in
             omega (arith, noted_length chosen_noted, renamed-length q it)
 
-        pub chosen_there : (i : Instruction) × Noted s.circuit.now s.notes.now index i
-        chosen_there = (it, chosen_noted)
-
         resets : (k : ℕ) → k < s.valid.instructions → is_reset (note_at s.notes.now k).form ≡ true → first_at s.notes.now k ≡ second_at s.notes.now k
         resets k l r =
             let i = there is k (omega (arith, a.instructions)) in
@@ -313,14 +307,14 @@ module _ (s : Source) (faithful : Faithful s) where
             (set : new.indices ≡ headed (first_at s.notes.now index) (second_at s.notes.now index) (after_at links index).first (after_at links index).second h.indices) where
           new_heads : (x : ℕ) → x < most_wires → Head is (g.written ++ index ∷ []) x (get_or new.indices x 0)
           new_heads x l =
-              let told = linked is tab in
+              let links_of = linked is tab in
               let n = chosen_noted in
               let low = s.low index b in
               subst (λ z. Head is (g.written ++ index ∷ []) x (get_or z x 0)) (sym set)
               (headed_each (λ y k. Head is (g.written ++ index ∷ []) y k) (first_at s.notes.now index) (second_at s.notes.now index) (after_at links index).first (after_at links index).second h.indices
               (omega (arith, low.0, h.sized)) (omega (arith, low.1, h.sized))
-              (subst (λ y. Head is (g.written ++ index ∷ []) y (after_at links index).first) (sym (first_noted n)) (head_of_wire _ (first_in it) (told.after_first index it (omega arith) this)))
-              (subst (λ y. Head is (g.written ++ index ∷ []) y (after_at links index).second) (sym (second_noted n)) (head_of_wire _ (second_in it) (told.after_second index it (omega arith) this)))
+              (subst (λ y. Head is (g.written ++ index ∷ []) y (after_at links index).first) (sym (first_noted n)) (head_of_wire _ (first_in it) (links_of.after_first index it (omega arith) this)))
+              (subst (λ y. Head is (g.written ++ index ∷ []) y (after_at links index).second) (sym (second_noted n)) (head_of_wire _ (second_in it) (links_of.after_second index it (omega arith) this)))
               x (λ f s'. head_kept is x g.written index (wire_off is index this x (λ e. f (e ∙ sym (first_noted n))) (λ e. s' (e ∙ sym (second_noted n)))) (g.heads x l)))
 
           new_right : new.candidates ≡ tried_both s new.indices (first_at s.notes.now index) (second_at s.notes.now index) h.candidates

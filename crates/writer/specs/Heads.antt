@@ -16,7 +16,7 @@ use Rattle.writer.specs.declared.heads.After.{After}
 use Rattle.writer.specs.declared.source.Source.{Source}
 
 -- the circuit is valid, its numbers are those told, and all its instructions are kept
-pub record Faithful (s : Source) : Type 0 where
+pub record TrueSource (s : Source) : Type 0 where
   pub valid : done s.valid ≡ summary (read_circuit s.circuit.now)
   pub kept : Kept s.circuit.now (steps_of (read_circuit s.circuit.now)) s.notes.now
 

@@ -121,7 +121,7 @@ impl Heads {
     }
 
     // The least candidate.
-    #[tactic(auto, using(crate::proofs::Candidates::least_first, crate::proofs::Candidates::least_more))]
+    #[tactic(auto, using(crate::proofs::Candidates::least_first))]
     pub fn least(&self) -> u16
         ensures { Least self.now.candidates most_wires result }
     {

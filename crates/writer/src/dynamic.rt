@@ -5,7 +5,7 @@ ghost use Rattle.records.specs.declared.instructions.Instruction.{Instruction};
 ghost use Rattle.circuits.specs.Limits.{most_wires, most_instructions};
 ghost use Rattle.circuits.specs.Reading.{read_circuit};
 ghost use Rattle.circuits.specs.Validity.{steps_bytes};
-ghost use Rattle.writer.specs.Heads.{Faithful, Tabled, Linked, tried_below};
+ghost use Rattle.writer.specs.Heads.{TrueSource, Tabled, Linked, tried_below};
 ghost use Rattle.writer.specs.Outputs.{output_of, dynamic_in};
 
 use crate::chaining::qubits_for;
@@ -24,7 +24,7 @@ fn write_in_order(
     out: &mut [u8],
     at: usize,
 ) -> usize
-    requires faithful { Faithful source.now }
+    requires told { TrueSource source.now }
     requires linked { (is : List Instruction) → Tabled is source.now → Linked is 0 heads.indices links.now }
     requires candidates_value { heads.candidates ≡ tried_below source.now heads.indices source.now.valid.width (replicate most_wires source.now.valid.instructions) }
     requires circuit_in_bounds { at + length (steps_bytes (dynamic_in source.now.lenders.lenders (read_circuit source.now.circuit.now))) ≤ length out.old }
@@ -45,7 +45,7 @@ fn write_in_order(
 
 // Links the instructions, then writes them in their order.
 fn write_steps(source: &Source, out: &mut [u8], at: usize) -> usize
-    requires faithful { Faithful source.now }
+    requires told { TrueSource source.now }
     requires circuit_in_bounds { at + length (steps_bytes (dynamic_in source.now.lenders.lenders (read_circuit source.now.circuit.now))) ≤ length out.old }
     ensures { Wrote out.old at (steps_bytes (dynamic_in source.now.lenders.lenders (read_circuit source.now.circuit.now))) out.new result }
 {
@@ -56,7 +56,7 @@ fn write_steps(source: &Source, out: &mut [u8], at: usize) -> usize
 
 // Writes the dynamic circuit of a valid circuit from the start of the buffer, and gives the place after it.
 pub(crate) fn write_dynamic(source: &Source, out: &mut [u8]) -> usize
-    requires faithful { Faithful source.now }
+    requires told { TrueSource source.now }
     requires circuit_in_bounds { length (output_of source.now.lenders.lenders (read_circuit source.now.circuit.now)) ≤ length out.old }
     ensures { Wrote out.old 0 (output_of source.now.lenders.lenders (read_circuit source.now.circuit.now)) out.new result }
 {
