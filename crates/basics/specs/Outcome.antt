@@ -1,4 +1,4 @@
--- What a call settles, in the document's words. Each answer of the code, an enum, has a definition that gives its outcome.
+-- What a call settles, in the document's words. Each answer of the code has a definition that gives its outcome.
 use Rattle.std.specs.Prelude.{ℕ}
 
 -- done, with the values that the call hands back; or refused, with the document's number and its place
