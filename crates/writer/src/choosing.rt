@@ -91,7 +91,7 @@ impl Heads {
 
     // Moves the heads of an instruction's wires to what comes after it, and tests again what they decide.
     #[tactic(auto, using(std::proofs::lemmas::Bool::Decides::nat_tests), unfolding(crate::specs::Heads::tried_both))]
-    pub fn move_on(&mut self, source: &Source, index: usize, after: After)
+    pub(crate) fn move_on(&mut self, source: &Source, index: usize, after: After)
         requires { index < source.now.valid.instructions }
         ensures indices_after { self.new.indices ≡ headed (first_at source.now.notes.now index) (second_at source.now.notes.now index) after.first after.second self.old.indices }
         ensures candidates_after { self.new.candidates ≡ tried_both source.now self.new.indices (first_at source.now.notes.now index) (second_at source.now.notes.now index) self.old.candidates }
@@ -105,7 +105,7 @@ impl Heads {
     }
 
     // The heads before anything is written; keeps for each instruction the next on its wires.
-    pub fn start(source: &Source, links: &mut [After; Circuit::MOST_INSTRUCTIONS]) -> Heads
+    pub(crate) fn start(source: &Source, links: &mut [After; Circuit::MOST_INSTRUCTIONS]) -> Heads
         ensures linked { (is : List Instruction) → Tabled is source.now → Linked is 0 result.indices links.new }
         ensures candidates_value { result.candidates ≡ tried_below source.now result.indices source.now.valid.width (replicate most_wires source.now.valid.instructions) }
     {
@@ -122,7 +122,7 @@ impl Heads {
 
     // The least candidate.
     #[tactic(auto, using(crate::proofs::Candidates::least_first))]
-    pub fn least(&self) -> u16
+    pub(crate) fn least(&self) -> u16
         ensures { Least self.now.candidates most_wires result }
     {
         let mut lowest = self.candidates[0];

@@ -23,7 +23,7 @@ pub(crate) struct Heads {
 
 impl After {
     // The same for both wires.
-    pub fn both(index: u16) -> After
+    pub(crate) fn both(index: u16) -> After
         ensures { (result.first ≡ index) × (result.second ≡ index) }
     {
         After {

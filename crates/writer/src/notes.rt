@@ -37,13 +37,13 @@ pub(crate) struct Notes {
 impl Form {
     ghost use Rattle.writer.specs.Notes.{is_reset, is_two};
 
-    pub fn is_reset(self) -> bool
+    pub(crate) fn is_reset(self) -> bool
         ensures { result ≡ is_reset self }
     {
         self == Form::Reset
     }
 
-    pub fn is_two(self) -> bool
+    pub(crate) fn is_two(self) -> bool
         ensures { result ≡ is_two self }
     {
         self == Form::Two
@@ -92,7 +92,7 @@ impl Notes {
     ghost use Rattle.writer.specs.Notes.{note_sketched};
 
     // Of no instruction yet. All but the first place is 0, so that nothing is filled twice and copied.
-    pub fn none() -> Notes {
+    pub(crate) fn none() -> Notes {
         let mut notes = Notes {
             all: [Note::NONE; Circuit::MOST_INSTRUCTIONS],
             places: [0; Circuit::MOST_INSTRUCTIONS + 1],
@@ -102,7 +102,7 @@ impl Notes {
     }
 
     // Keeps the form and the wires of an instruction, and the place after it.
-    pub fn note(&mut self, index: usize, sketch: Sketch, next: usize)
+    pub(crate) fn note(&mut self, index: usize, sketch: Sketch, next: usize)
         requires { (index < most_instructions) × (next < deciding_bytes) }
         ensures all_after { self.new.all ≡ set self.old.all index (note_sketched sketch) }
         ensures places_after { self.new.places ≡ set self.old.places (index + 1) next }

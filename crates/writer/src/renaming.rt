@@ -78,7 +78,7 @@ fn qubit_of(
 
 #[derive(Clone, Copy)]
 pub struct Renaming {
-    // For each wire its qubit.
+    // For each wire the number of its qubit: `Renames`, in the clause of `by_chain`, says the numbers.
     pub qubits: [u8; Circuit::MOST_WIRES],
 }
 

@@ -26,7 +26,7 @@ impl<'a> Source<'a> {
     ghost use Rattle.writer.specs.Notes.{note_at, place_at};
 
     // The lender of a wire; read where it stands, since `lender_of` copies all.
-    pub fn lender(&self, wire: Wire) -> Wire
+    pub(crate) fn lender(&self, wire: Wire) -> Wire
         requires { wire.0 < most_wires }
         ensures { result.0 ≡ lender_of self.now.lenders.lenders wire.0 }
     {
@@ -34,7 +34,7 @@ impl<'a> Source<'a> {
     }
 
     // What is kept of an instruction.
-    pub fn note(&self, index: usize) -> Note
+    pub(crate) fn note(&self, index: usize) -> Note
         requires { index < self.now.valid.instructions }
         ensures { result ≡ note_at self.now.notes.now index }
     {
@@ -42,7 +42,7 @@ impl<'a> Source<'a> {
     }
 
     // The place where an instruction stands.
-    pub fn place(&self, index: usize) -> usize
+    pub(crate) fn place(&self, index: usize) -> usize
         requires { index < self.now.valid.instructions }
         ensures { result ≡ place_at self.now.notes.now index }
     {
@@ -50,7 +50,7 @@ impl<'a> Source<'a> {
     }
 
     // The place after it.
-    pub fn place_after(&self, index: usize) -> usize
+    pub(crate) fn place_after(&self, index: usize) -> usize
         requires { index < self.now.valid.instructions }
         ensures { result ≡ place_at self.now.notes.now (index + 1) }
     {
