@@ -23,7 +23,6 @@ use Rattle.records.specs.Records.{line}
 use Rattle.records.specs.declared.instructions.Instruction.{Instruction}
 use Rattle.records.specs.declared.instructions.Instruction.TheVariants.{Reset, Measurement, Gate, AngledGate, TwoLineGate, AngledTwoLineGate}
 use Rattle.circuits.specs.Limits.{most_wires}
-use Rattle.circuits.specs.Reading.{read_circuit}
 use Rattle.circuits.specs.Validity.{steps_bytes}
 use Rattle.circuits.specs.Rewriting.{steps_of}
 use Rattle.circuits.proofs.Rewrites.{Accepted, accepted}
@@ -34,7 +33,7 @@ use Rattle.pairs.specs.Lending.{pairs_of}
 use Rattle.writer.specs.Chains.{qubit_of}
 use Rattle.writer.specs.Outputs.{renamed, in_order, dynamic_in, Renames}
 use Rattle.writer.specs.Notes.{is_reset, form_of, first_wire, second_wire, note_at, first_at, second_at, place_at, Noted}
-use Rattle.writer.specs.Heads.{TrueSource, NextOn, Tabled, after_at, Linked, headed, candidate, candidate_of, tried_below, tried_both, Least}
+use Rattle.writer.specs.Heads.{TrueSource, steps_from, NextOn, Tabled, after_at, Linked, headed, candidate, candidate_of, tried_below, tried_both, Least}
 use Rattle.writer.specs.declared.heads.After.{After}
 use Rattle.writer.specs.declared.heads.Heads.{Heads}
 use Rattle.writer.specs.declared.source.Source.{Source}
@@ -146,10 +145,6 @@ module _ (s : Source) (told : TrueSource s) where
     note = λ k i e. (noted k i e).note;
   }
 
-  -- what is written
-  abbrev all : List ℕ
-  all = steps_bytes (dynamic_in s.lenders.lenders (read_circuit s.circuit.now))
-
   -- a wire is one of its head's
   owns : (indices written : List ℕ) → ((x : ℕ) → x < most_wires → Head is written x (get_or indices x 0)) → (x : ℕ) → x < most_wires
       → get_or indices x 0 < s.valid.instructions → (x ≡ first_at s.notes.now (get_or indices x 0)) ⊎ (x ≡ second_at s.notes.now (get_or indices x 0))
@@ -174,9 +169,9 @@ module _ (s : Source) (told : TrueSource s) where
     pub kept : Written C ps written
     pub heads : (x : ℕ) → x < most_wires → Head is written x (get_or h.indices x 0)
     pub right : (x : ℕ) → x < most_wires → get_or h.candidates x 0 ≡ candidate_of s h.indices x
-    pub rest : Remaining old from all out to (steps_bytes (in_order q is (rest_on C ps left written)))
+    pub rest : Remaining old from (steps_from s) out to (steps_bytes (in_order q is (rest_on C ps left written)))
 
-  pub going_start : {old : List ℕ} {from left : ℕ} {h : Heads} {links : List After} → left ≡ s.valid.instructions → from + length all ≤ length old → ((is : List Instruction) → Tabled is s → Linked is 0 h.indices links)
+  pub going_start : {old : List ℕ} {from left : ℕ} {h : Heads} {links : List After} → left ≡ s.valid.instructions → from + length (steps_from s) ≤ length old → ((is : List Instruction) → Tabled is s → Linked is 0 h.indices links)
       → h.candidates ≡ tried_below s h.indices s.valid.width (replicate most_wires s.valid.instructions)
       → Going old from h old from left
   going_start {old} {from} {h = h} e room linked found = record {
@@ -187,7 +182,7 @@ module _ (s : Source) (told : TrueSource s) where
       | inl l ↦ below_right s h.indices own s.valid.width start start_sized s.narrow x l
       | inr l ↦ better.kept x (get_or-replicate most_wires x s.valid.instructions 0 b ∙ sym (rw (refuted _ (λ m. let z = narrow_head h.indices [] heads x b m in omega (arith, a.width)))))
     ];
-    rest = subst (λ z. Remaining old from all old from z)
+    rest = subst (λ z. Remaining old from (steps_from s) old from z)
         (ap (λ o. steps_bytes (dynamic_in s.lenders.lenders o)) a.is ∙ ap (λ ks. steps_bytes (in_order q is ks)) (rest_all C ps ∙ ap (λ n. rest_on C ps n []) (sym (e ∙ a.instructions))))
         (remaining_start room);
   }
@@ -208,11 +203,11 @@ module _ (s : Source) (told : TrueSource s) where
       better = better_below s h.indices own s.valid.width start start_sized s.narrow
 
   module _ {old : List ℕ} {from : ℕ} {h : Heads} {out : List ℕ} {to left : ℕ} (g : Going old from h out to left) where
-    ended : rest_on C ps left g.written ≡ [] → Wrote old from all out to
+    ended : rest_on C ps left g.written ≡ [] → Wrote old from (steps_from s) out to
     ended e = remaining_end (ap steps_bytes (order_none q is (rest_on C ps left g.written) e)) g.rest
 
     -- all that may be written is
-    pub going_end : left ≡ 0 → Wrote old from all out to
+    pub going_end : left ≡ 0 → Wrote old from (steps_from s) out to
     going_end e = ended (ap (λ n. rest_on C ps n g.written) e ∙ rest_none C ps g.written)
 
     abbrev below_heads : (x : ℕ) → x < a.circuit.width → Head is g.written x (get_or h.indices x 0)
@@ -228,7 +223,7 @@ module _ (s : Source) (told : TrueSource s) where
           omega (arith, least.least x.0 b, x.2)
 
       -- where nothing was chosen nothing is ready
-      pub going_stuck : s.valid.instructions ≤ index → Wrote old from all out to
+      pub going_stuck : s.valid.instructions ≤ index → Wrote old from (steps_from s) out to
       going_stuck b = elim (below_or_not (next C ps g.written) (length is)) [
         | inl l ↦ (let z = no_lower (next C ps g.written) l (next-ready C ps g.written l) in absurd (omega (arith, a.instructions)))
         | inr l ↦ ended (rest_stuck C ps left g.written l)
@@ -276,8 +271,8 @@ module _ (s : Source) (told : TrueSource s) where
 
         -- it is the first of what is still to be written
         comes_first : (less : ℕ) → left ≡ less + 1
-            → Remaining old from all out to (instruction_bytes (renamed q it) ++ steps_bytes (in_order q is (rest_on C ps less (g.written ++ index ∷ []))))
-        comes_first less e = subst (λ z. Remaining old from all out to (steps_bytes z)) (ap (in_order q is) (order less e) ∙ order_next q is index _ this) g.rest
+            → Remaining old from (steps_from s) out to (instruction_bytes (renamed q it) ++ steps_bytes (in_order q is (rest_on C ps less (g.written ++ index ∷ []))))
+        comes_first less e = subst (λ z. Remaining old from (steps_from s) out to (steps_bytes z)) (ap (in_order q is) (order less e) ∙ order_next q is index _ this) g.rest
 
         -- and there is room for it
         pub chosen_room : 0 < left → to + (place_at s.notes.now (index + 1) - place_at s.notes.now index) ≤ length out

@@ -9,8 +9,10 @@ use Rattle.records.specs.declared.instructions.Instruction.{Instruction}
 use Rattle.circuits.specs.Limits.{most_wires}
 use Rattle.circuits.specs.Reading.{read_circuit, summary}
 use Rattle.circuits.specs.Rewriting.{steps_of}
+use Rattle.circuits.specs.Validity.{steps_bytes}
 use Rattle.precedence.specs.Precedence.{on}
 use Rattle.pairs.specs.Lending.{lender_of, takes}
+use Rattle.writer.specs.Outputs.{output_of, dynamic_in}
 use Rattle.writer.specs.Notes.{is_reset, note_of, first_wire, second_wire, note_at, first_at, second_at, Kept}
 use Rattle.writer.specs.declared.heads.After.{After}
 use Rattle.writer.specs.declared.source.Source.{Source}
@@ -19,6 +21,13 @@ use Rattle.writer.specs.declared.source.Source.{Source}
 pub record TrueSource (s : Source) : Type 0 where
   pub valid : done s.valid ≡ summary (read_circuit s.circuit.now)
   pub kept : Kept s.circuit.now (steps_of (read_circuit s.circuit.now)) s.notes.now
+
+-- the bytes of the dynamic circuit, and those of its instructions
+abbrev pub output_from : Source → List ℕ
+output_from s = output_of s.lenders.lenders (read_circuit s.circuit.now)
+
+abbrev pub steps_from : Source → List ℕ
+steps_from s = steps_bytes (dynamic_in s.lenders.lenders (read_circuit s.circuit.now))
 
 -- an index is that of the first instruction on a wire from another on; the number of instructions where there is none
 pub record NextOn (is : List Instruction) (x start index : ℕ) : Type 0 where

@@ -2,10 +2,8 @@
 // accepted and there is room.
 ghost use Rattle.std.specs.Prelude.{◌+◌, ◌≡◌, length};
 ghost use Rattle.records.specs.Refusals.{outcome_of};
-ghost use Rattle.circuits.specs.Reading.{read_circuit};
 ghost use Rattle.writer.specs.Chains.{qubits};
-ghost use Rattle.writer.specs.Heads.{TrueSource};
-ghost use Rattle.writer.specs.Outputs.{output_of};
+ghost use Rattle.writer.specs.Heads.{TrueSource, output_from};
 ghost use Rattle.writer.specs.Compiling.{dynamic, in_room, compiled, Compiled};
 
 use crate::chaining::qubits_for;
@@ -28,8 +26,8 @@ pub struct Counts {
 // Writes the dynamic circuit where there is room for it: one byte more than the circuit has.
 fn write_in_room(source: &Source, pairs: usize, out: &mut [u8]) -> Result<Counts, Refusal>
     requires told { TrueSource source.now }
-    requires circuit_len { length (output_of source.now.lenders.lenders (read_circuit source.now.circuit.now)) ≡ length source.now.circuit.now + 1 }
-    ensures { Compiled out.old (in_room (length out.old) (dynamic (output_of source.now.lenders.lenders (read_circuit source.now.circuit.now)) (qubits source.now.lenders.lenders source.now.valid.width) pairs)) (outcome_of result) out.new }
+    requires circuit_len { length (output_from source.now) ≡ length source.now.circuit.now + 1 }
+    ensures { Compiled out.old (in_room (length out.old) (dynamic (output_from source.now) (qubits source.now.lenders.lenders source.now.valid.width) pairs)) (outcome_of result) out.new }
 {
     let circuit = source.circuit;
     if out.len() <= circuit.len() {

@@ -3,10 +3,7 @@ ghost use Rattle.std.specs.Prelude.{◌≡◌, ◌+◌, ◌≤◌, List, length,
 ghost use Rattle.writing.specs.Writing.{Wrote};
 ghost use Rattle.records.specs.declared.instructions.Instruction.{Instruction};
 ghost use Rattle.circuits.specs.Limits.{most_wires, most_instructions};
-ghost use Rattle.circuits.specs.Reading.{read_circuit};
-ghost use Rattle.circuits.specs.Validity.{steps_bytes};
-ghost use Rattle.writer.specs.Heads.{TrueSource, Tabled, Linked, tried_below};
-ghost use Rattle.writer.specs.Outputs.{output_of, dynamic_in};
+ghost use Rattle.writer.specs.Heads.{TrueSource, output_from, steps_from, Tabled, Linked, tried_below};
 
 use crate::chaining::qubits_for;
 use crate::copying::copy_renamed;
@@ -27,8 +24,8 @@ fn write_in_order(
     requires told { TrueSource source.now }
     requires linked { (is : List Instruction) → Tabled is source.now → Linked is 0 heads.indices links.now }
     requires candidates_value { heads.candidates ≡ tried_below source.now heads.indices source.now.valid.width (replicate most_wires source.now.valid.instructions) }
-    requires circuit_in_bounds { at + length (steps_bytes (dynamic_in source.now.lenders.lenders (read_circuit source.now.circuit.now))) ≤ length out.old }
-    ensures { Wrote out.old at (steps_bytes (dynamic_in source.now.lenders.lenders (read_circuit source.now.circuit.now))) out.new result }
+    requires circuit_in_bounds { at + length (steps_from source.now) ≤ length out.old }
+    ensures { Wrote out.old at (steps_from source.now) out.new result }
 {
     let renaming = Renaming::by_chain(source.lenders, source.valid.width);
     let mut to = at;
@@ -46,8 +43,8 @@ fn write_in_order(
 // Links the instructions, then writes them in their order.
 fn write_steps(source: &Source, out: &mut [u8], at: usize) -> usize
     requires told { TrueSource source.now }
-    requires circuit_in_bounds { at + length (steps_bytes (dynamic_in source.now.lenders.lenders (read_circuit source.now.circuit.now))) ≤ length out.old }
-    ensures { Wrote out.old at (steps_bytes (dynamic_in source.now.lenders.lenders (read_circuit source.now.circuit.now))) out.new result }
+    requires circuit_in_bounds { at + length (steps_from source.now) ≤ length out.old }
+    ensures { Wrote out.old at (steps_from source.now) out.new result }
 {
     let mut links = [After::both(0); Circuit::MOST_INSTRUCTIONS];
     let heads = Heads::start(source, &mut links);
@@ -57,8 +54,8 @@ fn write_steps(source: &Source, out: &mut [u8], at: usize) -> usize
 // Writes the dynamic circuit of a valid circuit from the start of the buffer, and gives the place after it.
 pub(crate) fn write_dynamic(source: &Source, out: &mut [u8]) -> usize
     requires told { TrueSource source.now }
-    requires circuit_in_bounds { length (output_of source.now.lenders.lenders (read_circuit source.now.circuit.now)) ≤ length out.old }
-    ensures { Wrote out.old 0 (output_of source.now.lenders.lenders (read_circuit source.now.circuit.now)) out.new result }
+    requires circuit_in_bounds { length (output_from source.now) ≤ length out.old }
+    ensures { Wrote out.old 0 (output_from source.now) out.new result }
 {
     let width = source.valid.width;
     let qubits = qubits_for(source.lenders, width);
