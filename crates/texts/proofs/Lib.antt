@@ -4,3 +4,4 @@ pub mod Whole
 pub mod ListingLines
 pub mod Lengths
 pub mod Worked
+pub mod Begun

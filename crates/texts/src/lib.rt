@@ -1,6 +1,7 @@
 // Lines of text for programs to print, put into a lent buffer as bytes are.
 #![tactic(auto)]
 
+mod drafts;
 pub mod lines;
 pub mod listings;
 pub mod places;

@@ -1,12 +1,11 @@
 // The line of a record at its place: the place, the name of the kind, the operands and the angle's bytes.
-ghost use Rattle.std.specs.Prelude.{◌≡◌, ◌++◌, ◌+◌, ◌≤◌, length};
+ghost use Rattle.std.specs.Prelude.{◌≡◌, ◌+◌, ◌≤◌, length};
 ghost use Rattle.writing.specs.Writing.{Placed, Written};
-ghost use Rattle.writing.specs.Decimals.{decimal};
-ghost use Rattle.writing.specs.Texts.{text};
-ghost use Rattle.texts.specs.Lines.{name_of, instruction_name, numbers_of, angle_of, spaced, angle_text, line_of};
+ghost use Rattle.texts.specs.Lines.{name_of, instruction_name, spaced, angle_text, line_of};
 ghost use Rattle.texts.specs.Parts.{instruction_parts, parts_of};
-ghost use Rattle.texts.specs.Room.{spaced_byte, spaced_room, angle_room, longest_line};
+ghost use Rattle.texts.specs.Room.{spaced_room, angle_room};
 
+use crate::drafts::Draft;
 use records::{Instruction, Record};
 
 // Room for the longest line.
@@ -69,50 +68,26 @@ fn name_of(r: Record) -> &'static [u8]
     }
 }
 
-// A number behind a space.
-fn put_spaced(out: &mut [u8], at: usize, n: u8) -> usize
-    requires { at + spaced_byte ≤ length out.old }
-    ensures { Written out.old at spaced_byte (text " " ++ decimal n) out.new result }
-{
-    let to = writing::put_bytes(out, at, b" ");
-    writing::put_number(out, to, n as usize)
-}
-
 // Numbers, each behind a space.
-fn put_numbers(out: &mut [u8], at: usize, numbers: &[u8]) -> usize
-    requires { at + spaced_room numbers.now ≤ length out.old }
-    ensures { Written out.old at (spaced_room numbers.now) (spaced numbers.now) out.new result }
+fn push_numbers(line: &mut Draft<LONGEST_LINE>, numbers: &[u8])
+    requires { line.old.length + spaced_room numbers.now ≤ length line.old.bytes }
+    ensures { Written line.old.bytes line.old.length (spaced_room numbers.now) (spaced numbers.now) line.new.bytes line.new.length }
 {
-    let mut to = at;
     for number in numbers {
-        to = put_spaced(out, to, *number);
+        line.push(b" ");
+        line.push_number(*number as usize);
     }
-    to
 }
 
 // An angle's bytes behind its word; nothing where there is no angle.
-fn put_angle(out: &mut [u8], at: usize, angle: &[u8]) -> usize
-    requires { at + angle_room angle.now ≤ length out.old }
-    ensures { Written out.old at (angle_room angle.now) (angle_text angle.now) out.new result }
+fn push_angle(line: &mut Draft<LONGEST_LINE>, angle: &[u8])
+    requires { line.old.length + angle_room angle.now ≤ length line.old.bytes }
+    ensures { Written line.old.bytes line.old.length (angle_room angle.now) (angle_text angle.now) line.new.bytes line.new.length }
 {
-    if angle.is_empty() {
-        return at;
+    if !angle.is_empty() {
+        line.push(b" angle");
+        push_numbers(line, angle);
     }
-    let to = writing::put_bytes(out, at, b" angle");
-    put_numbers(out, to, angle)
-}
-
-// The line at the front of a buffer that has room for any line. The numbers and the angle are those of the record.
-fn write_line(line: &mut [u8], place: usize, r: Record, numbers: &[u8], angle: &[u8]) -> usize
-    requires longest_line_in_bounds { longest_line ≤ length line.old }
-    requires numbers_value { (numbers.now ≡ numbers_of r) × (angle.now ≡ angle_of r) }
-    ensures { Written line.old 0 longest_line (line_of place r) line.new result }
-{
-    let placed = writing::put_number(line, 0, place);
-    let named = writing::put_bytes(line, placed, name_of(r));
-    let numbered = put_numbers(line, named, numbers);
-    let angled = put_angle(line, numbered, angle);
-    writing::put_bytes(line, angled, b"\n")
 }
 
 // Puts the line of a record at a place into a buffer as `put_bytes` puts bytes.
@@ -121,9 +96,11 @@ pub fn put_line(out: &mut [u8], at: usize, place: usize, r: Record) -> usize
 {
     let encoded = records::encode(r);
     let parts = record_parts(r);
-    let numbers = &encoded.bytes[parts.from..parts.stop];
-    let angle = &encoded.bytes[parts.stop..encoded.length];
-    let mut line = [0u8; LONGEST_LINE];
-    let length = write_line(&mut line, place, r, numbers, angle);
-    writing::put_bytes(out, at, &line[..length])
+    let mut line = Draft::<LONGEST_LINE>::new();
+    line.push_number(place);
+    line.push(name_of(r));
+    push_numbers(&mut line, &encoded.bytes[parts.from..parts.stop]);
+    push_angle(&mut line, &encoded.bytes[parts.stop..encoded.length]);
+    line.push(b"\n");
+    line.put(out, at)
 }

@@ -1,7 +1,11 @@
--- `texts::refusals::put_refusal` meets its contract: the line is the front of the array that it is written to. Assumes
--- nothing.
+-- `texts::refusals::put_refusal` meets its contract: the parts of the line are put one after the other. Assumes nothing.
+use lib.Dec.{lit≤}
 use Rattle.writing.proofs.Rows.{written_front}
+use Rattle.texts.proofs.Begun.{begun}
+use Rattle.texts.proofs.Whole.{refusal_whole}
 use Rattle.texts.proofs.refusals.put_refusal.Goals as goal
 
 pub returns : goal.returns
-returns c = rw (written_front c.write_refusal-length.ensures) at c.put_bytes.ensures
+returns c = let line = refusal_whole c.args.number c.args.place c.ranges.number.fits c.ranges.place.fits _ (lit≤ tt)
+    (begun c.new-line.ensures c.push.ensures) c.push_number.ensures c.push-2.ensures c.push_number-2.ensures c.push-3.ensures in
+    rw (written_front line) at c.put.ensures
