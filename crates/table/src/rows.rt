@@ -34,7 +34,7 @@ fn only(wire: Wire) -> Row
 }
 
 // A row with the mark of one wire.
-pub fn with(row: Row, wire: Wire) -> Row
+pub(crate) fn with(row: Row, wire: Wire) -> Row
     ensures { result ≡ pack most_wires (λ v. bit v row || eqb v wire.0) }
 {
     row | only(wire)
