@@ -27,8 +27,8 @@ fn accept_clean(table: Table, lender: Wire, taker: Wire) -> Table
     let lending = use_wire(table.width, table.lending, lender);
     let taking = use_wire(table.width, table.taking, taker);
     let mut rows = [0; Table::ROWS];
-    for (u, row) in rows.iter_mut().enumerate() {
-        *row = row_left(given, table.rows[u], taker);
+    for (wire, row) in rows.iter_mut().enumerate() {
+        *row = row_left(given, table.rows[wire], taker);
     }
     rows[lender.0 as usize] = 0;
     Table {

@@ -16,8 +16,9 @@ fn marks_of(table: Table) -> u32
     let takers = unused(table.width, table.taking);
     let end = rows_below(table.width);
     let mut n: u32 = 0;
-    for u in 0..end {
-        n += counting(lenders, takers, table.rows[u as usize], Wire(u)).count_ones();
+    for lender in 0..end {
+        let row = table.rows[lender as usize];
+        n += counting(lenders, takers, row, Wire(lender)).count_ones();
     }
     n
 }
@@ -30,8 +31,9 @@ pub fn all_marks(table: Table) -> [Row; Table::ROWS]
     let takers = unused(table.width, table.taking);
     let end = rows_below(table.width);
     let mut rows = [0; Table::ROWS];
-    for u in 0..end {
-        rows[u as usize] = counting(lenders, takers, table.rows[u as usize], Wire(u));
+    for lender in 0..end {
+        let row = table.rows[lender as usize];
+        rows[lender as usize] = counting(lenders, takers, row, Wire(lender));
     }
     rows
 }

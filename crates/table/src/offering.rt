@@ -99,8 +99,8 @@ pub fn accept(table: Table, lender: Wire, taker: Wire) -> Table
     let taking = use_wire(table.width, table.taking, taker);
     let end = rows_below(table.width);
     let mut rows = [0; Table::ROWS];
-    for u in 0..end {
-        rows[u as usize] = row_after(change, table.rows[u as usize], Wire(u));
+    for wire in 0..end {
+        rows[wire as usize] = row_after(change, table.rows[wire as usize], Wire(wire));
     }
     Table {
         width: table.width,

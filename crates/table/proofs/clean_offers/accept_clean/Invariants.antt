@@ -6,5 +6,5 @@ use Rattle.table.specs.Rule.{row_after, is_set}
 use Rattle.table.proofs.RowsBelow.{Filling}
 use Rattle.table.proofs.clean_offers.accept_clean.Given as goal
 
-abbrev pub invariant-loop-u : goal.invariant-loop-u
-invariant-loop-u l = Filling (λ j. pack most_wires (row_after (λ v. bit v l.given) (is_set l.table j) l.taker.0)) (replicate most_wires 0) l.u l.row-items
+abbrev pub invariant-loop-wire : goal.invariant-loop-wire
+invariant-loop-wire l = Filling (λ j. pack most_wires (row_after (λ v. bit v l.given) (is_set l.table j) l.taker.0)) (replicate most_wires 0) l.wire l.row-items

@@ -11,19 +11,19 @@ use Rattle.table.proofs.TableMarks.{row_counts}
 use Rattle.table.proofs.RowsBelow.{below_most, no_marks, filling_starts, filling_more, filling_ends}
 use Rattle.table.proofs.counting.all_marks.Goals as goal
 
-pub loop-u-init : goal.loop-u-init
-loop-u-init c = filling_starts (λ lender. pack most_wires (counts c.args.table lender)) _
+pub loop-lender-init : goal.loop-lender-init
+loop-lender-init c = filling_starts (λ lender. pack most_wires (counts c.args.table lender)) _
 
-pub loop-u-preserved : goal.loop-u-preserved
-loop-u-preserved c = let t = c.args.table in
+pub loop-lender-preserved : goal.loop-lender-preserved
+loop-lender-preserved c = let t = c.args.table in
     let few = below_most t.width in
-    let h = c.loop-u in
-    let fits : get_or t.rows h.u 0 < 2 ^ most_wires = omega arith in
-    let row = c.counting.ensures ∙ row_counts t h.u fits (record { is = c.unused-lenders.ensures }) (record { is = c.unused-takers.ensures }) (omega arith) in
-    filling_more (λ lender. pack most_wires (counts t lender)) h.u _ _ (omega arith) h.invariant row
+    let h = c.loop-lender in
+    let fits : get_or t.rows h.lender 0 < 2 ^ most_wires = omega arith in
+    let row = c.counting.ensures ∙ row_counts t h.lender fits (record { is = c.unused-lenders.ensures }) (record { is = c.unused-takers.ensures }) (omega arith) in
+    filling_more (λ lender. pack most_wires (counts t lender)) h.lender _ _ (omega arith) h.invariant row
 
 pub returns : goal.returns
 returns c = let t = c.args.table in
-    let h = c.loop-u in
-    let e : h.u ≡ rows_below t.width = omega (arith, c.rows_below-end.ensures) in
+    let h = c.loop-lender in
+    let e : h.lender ≡ rows_below t.width = omega (arith, c.rows_below-end.ensures) in
     filling_ends (λ lender. pack most_wires (counts t lender)) t.width h.rows (rw e at h.invariant) (no_marks t)

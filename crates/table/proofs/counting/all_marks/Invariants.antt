@@ -7,5 +7,5 @@ use Rattle.table.specs.Marks.{counts}
 use Rattle.table.proofs.RowsBelow.{Filling}
 use Rattle.table.proofs.counting.all_marks.Given as goal
 
-abbrev pub invariant-loop-u : goal.invariant-loop-u
-invariant-loop-u l = Filling (λ lender. pack most_wires (counts l.table lender)) (replicate most_wires 0) l.u l.rows
+abbrev pub invariant-loop-lender : goal.invariant-loop-lender
+invariant-loop-lender l = Filling (λ lender. pack most_wires (counts l.table lender)) (replicate most_wires 0) l.lender l.rows

@@ -13,22 +13,22 @@ use Rattle.table.proofs.TableMarks.{row_counts}
 use Rattle.table.proofs.RowsBelow.{below_most, marks_below}
 use Rattle.table.proofs.counting.marks_of.Goals as goal
 
-pub loop-u-init : goal.loop-u-init
+pub loop-lender-init : goal.loop-lender-init
 unfolding total
-loop-u-init c = refl
+loop-lender-init c = refl
 
 pub overflow_add-n : goal.overflow_add-n
-overflow_add-n c = let h = c.loop-u in
+overflow_add-n c = let h = c.loop-lender in
     omega (arith, below_most c.args.table.width, c.rows_below-end.ensures, tallies_le most_wires (counts c.args.table) _ _ h.invariant, ones-le most_wires c.counting.result (search rules))
 
-pub loop-u-preserved : goal.loop-u-preserved
-loop-u-preserved c = let h = c.loop-u in
+pub loop-lender-preserved : goal.loop-lender-preserved
+loop-lender-preserved c = let h = c.loop-lender in
     let few = below_most c.args.table.width in
-    let fits : get_or c.args.table.rows h.u 0 < 2 ^ most_wires = omega arith in
-    let row = c.counting.ensures ∙ row_counts c.args.table h.u fits (record { is = c.unused-lenders.ensures }) (record { is = c.unused-takers.ensures }) (omega arith) in
+    let fits : get_or c.args.table.rows h.lender 0 < 2 ^ most_wires = omega arith in
+    let row = c.counting.ensures ∙ row_counts c.args.table h.lender fits (record { is = c.unused-lenders.ensures }) (record { is = c.unused-takers.ensures }) (omega arith) in
     tallies_more most_wires (counts c.args.table) _ _ _ h.invariant (record { is = row })
 
 pub returns : goal.returns
 returns c = let t = c.args.table in
-    let e : c.loop-u.u ≡ rows_below t.width = omega (arith, c.rows_below-end.ensures) in
-    rw e at c.loop-u.invariant ∙ marks_below t
+    let e : c.loop-lender.lender ≡ rows_below t.width = omega (arith, c.rows_below-end.ensures) in
+    rw e at c.loop-lender.invariant ∙ marks_below t

@@ -14,26 +14,26 @@ use Rattle.table.proofs.TableMarks.{row_changed}
 use Rattle.table.proofs.RowsBelow.{below_most, none_after, filling_starts, filling_more, filling_same, filling_ends}
 use Rattle.table.proofs.offering.accept.Goals as goal
 
-pub loop-u-init : goal.loop-u-init
-loop-u-init c = let change = c.change_of-change.result in
+pub loop-wire-init : goal.loop-wire-init
+loop-wire-init c = let change = c.change_of-change.result in
     filling_starts (λ u. pack most_wires (changed change (get_or c.args.table.rows u 0) u)) _
 
-pub loop-u-preserved : goal.loop-u-preserved
-loop-u-preserved c = let h = c.loop-u in
+pub loop-wire-preserved : goal.loop-wire-preserved
+loop-wire-preserved c = let h = c.loop-wire in
     let change = c.change_of-change.result in
     let few = below_most c.args.table.width in
-    filling_more (λ u. pack most_wires (changed change (get_or c.args.table.rows u 0) u)) h.u _ _ (omega arith) h.invariant c.row_after.ensures
+    filling_more (λ u. pack most_wires (changed change (get_or c.args.table.rows u 0) u)) h.wire _ _ (omega arith) h.invariant c.row_after.ensures
 
 pub returns : goal.returns
 unfolding accepted_in
-returns c = let h = c.loop-u in
+returns c = let h = c.loop-wire in
     let t = c.args.table in
     let lender = c.args.lender.0 in
     let taker = c.args.taker.0 in
-    let e : h.u ≡ rows_below t.width = omega (arith, c.rows_below-end.ensures) in
+    let e : h.wire ≡ rows_below t.width = omega (arith, c.rows_below-end.ensures) in
     let few = below_most t.width in
     let change = c.change_of-change.ensures in
-    let rule = filling_same (λ u. pack most_wires (mark_after (counts t) lender taker u)) h.u h.rows h.invariant
+    let rule = filling_same (λ u. pack most_wires (mark_after (counts t) lender taker u)) h.wire h.rows h.invariant
     (λ u l. ap (λ (x : Change). pack most_wires (changed x (get_or t.rows u 0) u)) change ∙ row_changed t lender taker u (row_held t.rows c.well_formed.0.1.1.1.0 u) (omega arith)) in
     let rows = filling_ends (λ u. pack most_wires (mark_after (counts t) lender taker u)) t.width h.rows (rw e at rule) (none_after t lender taker) in
     λ i. record { width = t.width; rows = rows i; lending = c.use_wire-lending.ensures i; taking = c.use_wire-taking.ensures i }

@@ -7,5 +7,5 @@ use Rattle.table.specs.Changes.{changed}
 use Rattle.table.proofs.RowsBelow.{Filling}
 use Rattle.table.proofs.offering.accept.Given as goal
 
-abbrev pub invariant-loop-u : goal.invariant-loop-u
-invariant-loop-u l = Filling (λ j. pack most_wires (changed l.change (get_or l.table.rows j 0) j)) (replicate most_wires 0) l.u l.rows
+abbrev pub invariant-loop-wire : goal.invariant-loop-wire
+invariant-loop-wire l = Filling (λ j. pack most_wires (changed l.change (get_or l.table.rows j 0) j)) (replicate most_wires 0) l.wire l.rows
