@@ -1,17 +1,42 @@
 -- The bits that the functions of one row compute, at any number of bits k. Assumes nothing.
 use mathlib.Core.Path.{◌≡◌, refl, sym, ap, ◌∙◌}
+use mathlib.Core.Logic.{◌≢◌}
 use mathlib.Core.Bool.{Bool, true, false, not, ◌&&◌, ◌||◌, and-true, and-false}
-use Prim.Native.Nat.{ℕ, ◌^◌, ◌<◌}
+use Prim.Native.Nat.{ℕ, ◌^◌, ◌<◌, zero-le}
 use native.Mathlib.Omega.{arith}
 use native.Mathlib.Decide.{dec_lt}
-use borrow.Author.Tests.{eqb-true}
-use lib.Dec.{eqb}
+use borrow.Author.Tests.{ne_eqb, eq-eqb, eqb-true}
+use lib.Dec.{eqb, lit<}
 use lib.Bits.{bit_and}
+use Rattle.basics.proofs.Tests.{not_both}
 use Rattle.bits.specs.Bits.{bit, pack}
 use Rattle.bits.proofs.Packing.{pack_ext, nothing_packed, bit_past}
 use Rattle.bits.proofs.Operations.{Packs, own, and_is, same, bit_is, lt_is}
 use Rattle.table.specs.Marks.{counts_among}
 use Rattle.table.specs.Rule.{row_after}
+
+-- what a row has of one wire alone is not 0 where the row has it
+pub one_mark : {k row m : ℕ} (wire : ℕ) → row < 2 ^ k → Packs k (λ v. bit v row && eqb v wire) m → not (eqb m 0) ≡ bit wire row
+one_mark {k} {row} {m} wire r p = go (bit wire row) refl
+  where
+    alone : (v : ℕ) (d : Bool) → eqb v wire ≡ d → bit wire row ≡ false → (bit v row && d) ≡ false
+    alone v true e h = rw (eqb-true v wire e, h)
+    alone v false e h = and-false (bit v row)
+
+    go : (b : Bool) → bit wire row ≡ b → not (eqb m 0) ≡ b
+    go true h = rw (ne_eqb m 0 some) refl
+      where
+        inside : Dec (wire < k) → wire < k
+        inside (yes l) = l
+        inside (no l) = absurd (not_both (bit wire row) h (bit_past k wire r (omega arith)))
+
+        some : m ≢ 0
+        some e =
+            let kept : bit wire m ≡ true = bit_is p wire (inside (dec_lt wire k)) ∙ rw (h, eq-eqb wire wire refl) refl in
+            not_both (bit wire m) kept (rw e (bit_past 0 wire (lit< tt) zero-le))
+    go false h =
+        let none : m ≡ 0 = p.is ∙ sym (nothing_packed k (λ v. alone v (eqb v wire) refl h)) in
+        rw none refl
 
 -- a row without a wire, by marks that are known
 pub less_is : {k : ℕ} {f : ℕ → Bool} {a n : ℕ} (wire : ℕ) → Packs k f a → n ≡ pack k (λ v. not (eqb v wire) && bit v a) → n ≡ pack k (λ v. not (eqb v wire) && f v)

@@ -19,18 +19,18 @@ pub struct Change {
     pub taker: Wire,
 }
 
-// The mark of one wire.
-pub fn has(row: Row, wire: Wire) -> bool
-    ensures { result ≡ bit wire.0 row }
-{
-    wire.0 < Table::MOST && (row >> wire.0) % 2 == 1
-}
-
 // The row of one mark, and of none past the last wire.
 fn only(wire: Wire) -> Row
     ensures { result ≡ pack most_wires (λ v. eqb v wire.0) }
 {
     if wire.0 < Table::MOST { 1 << wire.0 } else { 0 }
+}
+
+// The mark of one wire.
+pub fn has(row: Row, wire: Wire) -> bool
+    ensures { result ≡ bit wire.0 row }
+{
+    row & only(wire) != 0
 }
 
 // A row with the mark of one wire.
