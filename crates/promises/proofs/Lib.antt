@@ -4,3 +4,4 @@ pub mod DemandThree
 pub mod Choosing
 pub mod Meaning
 pub mod WorkedExamples
+pub mod Beside
