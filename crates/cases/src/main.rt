@@ -17,7 +17,8 @@ fn show_reading(rt: &impl Print, name: &str, circuit: &[u8]) {
     };
 }
 
-// A name, and what is answered where the circuit is to be written again into this room.
+// A name, and what is answered where the circuit is to be written again into this room. With `show_reading` it shares no line but that of
+// a refusal.
 fn show_rewriting(rt: &impl Print, name: &str, circuit: &[u8], out: &mut [u8]) {
     let _ = match rewrite(circuit, out) {
         Ok(n) => println!(rt; "{name}: bytes {n}"),

@@ -11,7 +11,8 @@ pub struct Pair {
     pub taker: Wire,
 }
 
-// The pairs in the order chosen; the entries past the length are 0 to 0.
+// The pairs in the order chosen; the entries past the length are 0 to 0. An array and a length, since it is handed back by value and no
+// call here has a heap.
 #[derive(Clone, Copy)]
 pub struct PairList {
     pub pairs: [Pair; PairList::MOST],

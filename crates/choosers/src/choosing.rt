@@ -1,4 +1,5 @@
-// The greedy choice: in each round every yes pair is tried, and the one with the highest score is accepted.
+// The greedy choice: in each round every yes pair is tried, and the one with the highest score is accepted. Each step asks for a table of
+// a right width; that is no type of its own, since `greedy` is handed any table and hands one back.
 ghost use Rattle.std.specs.Prelude.{◌≡◌, false, ◌+◌, ◌<◌, ◌≤◌, length};
 ghost use Rattle.basics.specs.Outcome.{beside};
 ghost use Rattle.records.specs.Refusals.{outcome_of};
@@ -130,7 +131,7 @@ fn round(rounds: Rounds, marks: u32) -> Rounds
     }
 }
 
-// Rounds until no yes is left.
+// Rounds until no yes is left. The loop counts nothing.
 fn all_rounds(table: Table) -> Rounds
     requires { wrong_width table ≡ false }
     ensures { result ≡ handed_back (greedy_from table) }

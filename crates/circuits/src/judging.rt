@@ -9,7 +9,7 @@ use crate::sketching::Sketch;
 use crate::states::{States, set_state, state_at};
 use records::{Bit, Cause, Line};
 
-// Why an instruction is refused, and which of its operands is at fault: 1 the first, 2 the second.
+// Why an instruction is refused, and which of its operands is at fault: 1 the first, 2 the second. A number, as `place_of` answers any.
 #[derive(Clone, Copy)]
 pub struct Fault {
     pub cause: Cause,
@@ -29,7 +29,8 @@ pub fn place_of(at: usize, number: u8, operand: u8) -> usize
     at
 }
 
-// A gate or a measurement needs a line that is reset and not measured. It asks for no bit's state.
+// A gate or a measurement needs a line that is reset and not measured. It asks for no bit's state. This judge and the three below are no
+// twins: each has its own numbers in its own order.
 fn judge_live(progress: &[u8], line: Line, operand: u8) -> Result<(), Fault>
     ensures { (bs : List ℕ) → verdict_of result ≡ live operand (states_of progress.now bs) line }
 {

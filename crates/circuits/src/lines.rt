@@ -1,4 +1,5 @@
-// In a static circuit a line is a wire: the only way from one number to the other.
+// In a static circuit a line is a wire: the only way from one number to the other. No `From`, which would make a wire of a dynamic
+// circuit's line too.
 ghost use Rattle.std.specs.Prelude.{◌≡◌};
 ghost use Rattle.records.specs.Records.{wire};
 

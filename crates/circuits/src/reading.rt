@@ -1,6 +1,6 @@
 // The reader: any byte string is a valid circuit, of which the width and the number of instructions are told, or is
 // refused with a number of 1 to 13 and its place, the first fault deciding.
-ghost use Rattle.std.specs.Prelude.{◌≡◌, ◌-◌};
+ghost use Rattle.std.specs.Prelude.{◌≡◌, ◌-◌, ◌<◌, IfSome, unwrap_or};
 ghost use Rattle.records.specs.Refusals.{outcome_of};
 ghost use Rattle.circuits.specs.Limits.{most_instructions, header_length};
 ghost use Rattle.circuits.specs.Judging.{fresh_states, first_unfinished};
@@ -48,30 +48,30 @@ pub fn read_header(s: &[u8]) -> Result<u8, Refusal>
     }
 }
 
-// The lowest line that is not measured, or the width where there is none.
-fn lowest_unfinished(width: u8, progress: &[u8]) -> u8
-    ensures { result ≡ first_unfinished width progress.now 0 }
+// The lowest line that is not measured, if there is one.
+fn lowest_unfinished(width: u8, progress: &[u8]) -> Option<u8>
+    ensures lowest { unwrap_or result width ≡ first_unfinished width progress.now 0 }
+    ensures below { IfSome result (λ line. line < width) }
 {
     for line in 0..width {
         if state_at(progress, line) != States::DONE {
-            return line;
+            return Some(line);
         }
     }
-    width
+    None
 }
 
 // The end of the input: the circuit, or 13.
 pub fn close(width: u8, progress: &[u8], instructions: usize) -> Result<Circuit, Refusal>
     ensures { outcome_of result ≡ counted width instructions (ending width progress.now) }
 {
-    let line = lowest_unfinished(width, progress);
-    if line < width {
-        return Err(Cause::NeverMeasured.at(line as usize));
+    match lowest_unfinished(width, progress) {
+        Some(line) => Err(Cause::NeverMeasured.at(line as usize)),
+        None => Ok(Circuit {
+            width,
+            instructions,
+        }),
     }
-    Ok(Circuit {
-        width,
-        instructions,
-    })
 }
 
 // The instructions after the header.

@@ -1,5 +1,6 @@
 // An instruction without its kind's number and its angle: all that is needed to judge it. `sketch_at` finds it by one
-// look at the kind and one test of the length, and reads one or two operands.
+// look at the kind and one test of the length, and reads one or two operands. It stands beside `step_at` and not on it, which would read
+// for every step what no judge asks for.
 ghost use Rattle.std.specs.Prelude.{◌≡◌, ◌+◌, ◌<◌, length};
 ghost use Rattle.basics.specs.Outcome.{done};
 ghost use Rattle.records.specs.Records.{stands, decode_at};

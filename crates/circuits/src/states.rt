@@ -1,5 +1,6 @@
-// What the lines and the bits of a circuit have been through, from its start up to some instruction. The calls are lent the two
-// lists of states as slices: a struct of both would be copied at every call.
+// What the lines and the bits of a circuit have been through, from its start up to some instruction. States are numbers, and two slices of
+// them are lent: `judge`, `advance`, `take_step` and `close` answer slices of any length with any bytes, so an enum of three states or a
+// struct of both lists would ask for more.
 ghost use Rattle.std.specs.Prelude.{◌≡◌, get_or, set};
 ghost use Rattle.circuits.specs.Judging.{fresh, fresh_states};
 

@@ -1,5 +1,6 @@
 // The next step of a static circuit, judged after those before it. Every pass that must know a circuit valid goes by
-// `take_step`, and keeps of each sketch what it needs itself.
+// `take_step`, and keeps of each sketch what it needs itself. Each has the `while let` over it: an iterator would have to hold the
+// states, which the pass asks for at the end.
 ghost use Rattle.std.specs.Prelude.{◌≡◌};
 ghost use Rattle.circuits.specs.Judging.{states_of};
 ghost use Rattle.circuits.specs.Sketching.{glimpsed, in_sketch};

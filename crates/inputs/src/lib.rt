@@ -10,7 +10,8 @@ pub use reason::Reason;
 use std::io;
 use std::io::Read;
 
-// How many bytes were read, and whether all could be, or why not.
+// How many bytes were read, and whether all could be, or why not. The count stands beside the `Result`: `within` and `bytes` of `fill` are
+// of what was read before a failure too.
 #[derive(Clone, Copy)]
 pub struct Input {
     pub count: usize,

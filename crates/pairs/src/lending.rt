@@ -7,7 +7,8 @@ use records::Wire;
 
 #[derive(Clone, Copy)]
 pub struct Lenders {
-    // For each taker its lender; a number that is no wire's stands for nobody.
+    // For each taker its lender; a number that is no wire's stands for nobody. No `Option`: `nobody_lends`, `lender_of` and `takes` are of
+    // lists of numbers, and `Renames` and the theorems of `promises` are said by them.
     pub lenders: [u8; Circuit::MOST_WIRES],
 }
 

@@ -5,7 +5,7 @@ ghost use Rattle.records.specs.Bytes.{instruction_bytes, record_bytes, encoded};
 
 use crate::instructions::{Instruction, Record};
 
-// A record's bytes at the front, 0 behind them, and how many they are.
+// A record's bytes at the front, 0 behind them, and how many they are. An array and a length, since no call here has a heap.
 #[derive(Clone, Copy)]
 pub struct Encoded {
     pub bytes: [u8; Encoded::MOST],
@@ -17,6 +17,7 @@ impl Encoded {
     pub const MOST: usize = 11;
 }
 
+// One arm for each kind, since their operands differ.
 fn encode_instruction(i: Instruction) -> Encoded
     ensures { result ≡ encoded (instruction_bytes i) }
 {

@@ -1,4 +1,5 @@
-// Instructions and the other records, with their operands. A gate carries its kind byte: its form has sixteen.
+// Instructions and the other records, with their operands. A gate carries its kind byte: its form has sixteen, and `encode` and
+// `write_record` answer any byte, so a type of their names would ask for more.
 use crate::numbers::{Angle, Bit, Line, Wire};
 
 #[derive(Clone, Copy)]

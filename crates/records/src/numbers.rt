@@ -16,7 +16,8 @@ pub struct Qubit(pub u8);
 #[derive(Clone, Copy, PartialEq, Eq)]
 pub struct Bit(pub u8);
 
-// The eight bytes of an angle, in the order in which they stand. Nothing here reads them.
+// The eight bytes of an angle, in the order in which they stand. Nothing here reads them. No array: in a definition that is a list of
+// any length, and `round_trip` is of every instruction.
 #[derive(Clone, Copy, PartialEq, Eq)]
 pub struct Angle(
     pub u8,

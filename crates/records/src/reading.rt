@@ -17,26 +17,8 @@ fn byte_at(s: &[u8], at: usize, distance: usize) -> u8
     }
 }
 
-// An angle that lies inside the bytes.
-fn angle_inside(s: &[u8], at: usize, distance: usize) -> Angle
-    requires { at + distance + 8 ≤ length s.now }
-    ensures { result ≡ angle_at s.now at distance }
-{
-    let from = at + distance;
-    Angle(
-        s[from],
-        s[from + 1],
-        s[from + 2],
-        s[from + 3],
-        s[from + 4],
-        s[from + 5],
-        s[from + 6],
-        s[from + 7],
-    )
-}
-
-// An angle anywhere; bytes past the end count as 0.
-fn angle_padded(s: &[u8], at: usize, distance: usize) -> Angle
+// An angle; bytes past the end count as 0.
+fn angle_at(s: &[u8], at: usize, distance: usize) -> Angle
     requires { distance ≤ 3 }
     ensures { result ≡ angle_at s.now at distance }
 {
@@ -52,20 +34,7 @@ fn angle_padded(s: &[u8], at: usize, distance: usize) -> Angle
     )
 }
 
-// An angle: nearly always it lies inside, and then each byte is read without a test.
-fn angle_at(s: &[u8], at: usize, distance: usize) -> Angle
-    requires { distance ≤ 3 }
-    ensures { result ≡ angle_at s.now at distance }
-{
-    if at < s.len() {
-        if distance + 8 <= s.len() - at {
-            return angle_inside(s, at, distance);
-        }
-    }
-    angle_padded(s, at, distance)
-}
-
-// The record of a known form at a place; bytes past the end count as 0.
+// The record of a known form at a place; bytes past the end count as 0. One arm for each form, since their operands differ.
 fn decode(form: Form, s: &[u8], at: usize) -> Record
     ensures { result ≡ decode_at form s.now at }
 {

@@ -18,7 +18,8 @@ fn row_of(table: Table, wire: Wire) -> Row
     table.rows[wire.0 as usize]
 }
 
-// The table after an offer that is taken. A row needs no test of its own: the rule goes by the marks that are set.
+// The table after an offer that is taken. A row needs no test of its own: the rule goes by the marks that are set. So it is quicker than
+// `accept`, which is for any table and cannot rest on it.
 fn accept_clean(table: Table, lender: Wire, taker: Wire) -> Table
     requires { lender.0 < most_wires }
     ensures { result ≡ accepted_clean table lender.0 taker.0 }

@@ -9,20 +9,6 @@ use crate::rows::{counting, rows_below, unused};
 use crate::tables::{Row, Table};
 use records::{Cause, Refusal, Wire};
 
-fn marks_of(table: Table) -> u32
-    ensures { result ≡ marks_of table }
-{
-    let lenders = unused(table.width, table.lending);
-    let takers = unused(table.width, table.taking);
-    let end = rows_below(table.width);
-    let mut n: u32 = 0;
-    for lender in 0..end {
-        let row = table.rows[lender as usize];
-        n += counting(lenders, takers, row, Wire(lender)).count_ones();
-    }
-    n
-}
-
 // The marks that count, a row for each lender.
 pub fn all_marks(table: Table) -> [Row; Table::ROWS]
     ensures { result ≡ mark_rows table }
@@ -36,6 +22,17 @@ pub fn all_marks(table: Table) -> [Row; Table::ROWS]
         rows[lender as usize] = counting(lenders, takers, row, Wire(lender));
     }
     rows
+}
+
+fn marks_of(table: Table) -> u32
+    ensures { result ≡ marks_of table }
+{
+    let rows = all_marks(table);
+    let mut n: u32 = 0;
+    for row in &rows {
+        n += row.count_ones();
+    }
+    n
 }
 
 // How many marks count.

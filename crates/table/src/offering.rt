@@ -1,4 +1,5 @@
-// Whether a wire may lend to another, and what an offer makes of the table.
+// Whether a wire may lend to another, and what an offer makes of the table. The lender and the taker are two parameters, as C hands them
+// in and as the definitions take them.
 ghost use Rattle.std.specs.Prelude.{◌≡◌};
 ghost use Rattle.records.specs.Refusals.{outcome_of};
 ghost use Rattle.bits.specs.Bits.{pack};

@@ -74,7 +74,7 @@ fn store_table(table: Table, out: &mut [u8], at: usize) -> usize
 }
 
 // Puts a table's bytes into a buffer from a place on and gives the place after them; where there is no room nothing
-// is stored and the place stays.
+// is stored and the place stays. It looks for room as `put_bytes` does, so that no table is stored twice.
 pub fn write_table(table: Table, out: &mut [u8], at: usize) -> usize
     ensures { Placed out.old at (table_bytes table) out.new result }
 {

@@ -1,5 +1,5 @@
 // The library that C and Rust link: numbers and byte slices only. Each call returns one word: the refusal's number times 2^32
-// plus its place, or, when done, a value below 2^32.
+// plus its place, or, when done, a value below 2^32. A call is one match, since each tells another value.
 #![tactic(auto)]
 
 mod choosing;

@@ -16,7 +16,7 @@ pub struct Walk<'a> {
     pub at: usize,
 }
 
-// The place after the record at a place; at a fault or the end, that place.
+// The place after the record at a place; at a fault or the end, that place: no `Option`, as `moved_to` says it.
 pub fn place_after(circuit: &[u8], at: usize) -> usize
     ensures { result ≡ place_after circuit.now at }
 {

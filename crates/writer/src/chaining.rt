@@ -31,7 +31,7 @@ fn begins(lenders: Lenders, width: u8, wire: Wire) -> u8
     if lenders.takes(width, wire) { 0 } else { 1 }
 }
 
-// How many first wires are lower than a wire.
+// How many first wires are lower than a wire. It is asked of the width too, which `all_firsts_below` has no entry for.
 #[tactic(auto, unfolding(crate::specs::Chains::firsts_below))]
 pub fn firsts_below(lenders: Lenders, width: u8, wire: Wire) -> u8
     ensures { result ≡ firsts_below lenders.lenders width wire.0 }

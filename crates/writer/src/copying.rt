@@ -11,7 +11,8 @@ use crate::source::Source;
 use records::Qubit;
 use writing::put_bytes;
 
-// Writes the kind, the qubit, and what stands behind them.
+// Writes the kind, the qubit, and what stands behind them. One function with `copy_two` would take its qubits as a slice, and put them by
+// one call more for each instruction.
 fn copy_one(
     circuit: &[u8],
     from: usize,

@@ -15,7 +15,8 @@ pub(crate) struct After {
 pub(crate) struct Heads {
     // For each wire the index of its first instruction that is not yet written; the number of instructions where all are.
     pub indices: [u16; Circuit::MOST_WIRES],
-    // For each wire that index where it may be written, else the number of instructions.
+    // For each wire that index where it may be written, else the number of instructions: no `Option`, so that the next one is the least
+    // of numbers.
     pub candidates: [u16; Circuit::MOST_WIRES],
     ghost sized: { length indices ≡ most_wires },
     ghost sized_candidates: { length candidates ≡ most_wires },

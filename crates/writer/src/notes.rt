@@ -19,7 +19,7 @@ pub(crate) enum Form {
 pub(crate) struct Note {
     pub form: Form,
     pub first: Wire,
-    // The only wire again where there is no other.
+    // The only wire again where there is no other: no `Option`, so that both are tested and moved alike.
     pub second: Wire,
 }
 

@@ -1,4 +1,5 @@
-// The renaming by chain: the only way from wire to qubit.
+// The renaming by chain: the only way from wire to qubit. The counts are lent beside the lenders that they are counted from, so that they
+// are counted once.
 ghost use Rattle.std.specs.Prelude.{◌≡◌, ℕ, ◌<◌, None, get_or};
 ghost use Rattle.bits.specs.Bits.{each};
 ghost use Rattle.circuits.specs.Limits.{most_wires};

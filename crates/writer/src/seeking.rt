@@ -12,7 +12,7 @@ use crate::source::Source;
 use circuits::Circuit;
 use records::Wire;
 
-// What is kept of a wire.
+// What is kept of a wire. That a wire is low is asked here and not told by `Wire`, which the reader hands out for any number.
 pub(crate) fn of_wire(kept: &[u16; Circuit::MOST_WIRES], wire: Wire) -> u16
     requires { wire.0 < most_wires }
     ensures { result ≡ get_or kept.now wire.0 0 }

@@ -5,7 +5,7 @@ ghost use Rattle.writing.specs.Writing.{Placed};
 ghost use Rattle.writing.specs.Decimals.{decimal};
 
 // Puts bytes into a buffer from a place on and gives the place after them. Where there is not room for all of
-// them nothing is stored and the place stays.
+// them nothing is stored and the place stays: `Placed` says it of this and of all that put by it, so none answers an `Option`.
 #[tactic(auto, using(crate::proofs::Puts::mid_placed))]
 pub fn put_bytes(out: &mut [u8], at: usize, bytes: &[u8]) -> usize
     ensures { Placed out.old at bytes.now out.new result }

@@ -1,13 +1,16 @@
 -- `circuits::reading::close` meets its contract: its test is the definition's. Assumes nothing.
+use mathlib.Core.Path.{sym, ap, ◌∙◌}
 use native.Mathlib.Nat.{add-zero}
+use native.Mathlib.Omega.{arith}
 use borrow.Author.Tests.{lt-ltb, le-ltb}
+use Rattle.std.specs.Prelude.{unwrap_or}
 use Rattle.circuits.specs.Reading.{ending}
 use Rattle.circuits.proofs.reading.close.Goals as goal
 
-pub returns-then-line-width : goal.returns-then-line-width
+pub returns-in-Some : goal.returns-in-Some
 unfolding ending
-returns-then-line-width c = rw (c.at.ensures, ← c.lowest_unfinished-line.ensures, lt-ltb _ _ c.if-line-width.true)
+returns-in-Some c = rw (c.at.ensures, sym c.in-Some.ensures.lowest, lt-ltb _ _ c.in-Some.ensures.below)
 
-pub returns : goal.returns
+pub returns-in-None : goal.returns-in-None
 unfolding ending
-returns c = rw (← c.lowest_unfinished-line.ensures, le-ltb _ _ c.if-line-width.false, add-zero)
+returns-in-None c = rw (sym c.in-None.ensures.lowest, le-ltb c.args.width c.args.width (omega arith), add-zero)

@@ -1,5 +1,5 @@
--- `records::reading::angle_padded` meets its contract: the eight bytes one after the other. Assumes nothing.
-use Rattle.records.proofs.reading.angle_padded.Goals as goal
+-- `records::reading::angle_at` meets its contract: the eight bytes one after the other. Assumes nothing.
+use Rattle.records.proofs.reading.angle_at.Goals as goal
 
 pub returns : goal.returns
 returns c = rw (
