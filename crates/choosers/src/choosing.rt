@@ -2,13 +2,14 @@
 // a right width; that is no type of its own, since `greedy` is handed any table and hands one back.
 ghost use Rattle.std.specs.Prelude.{◌≡◌, false, ◌+◌, ◌<◌, ◌≤◌, length};
 ghost use Rattle.basics.specs.Outcome.{beside};
+ghost use Rattle.std.specs.Result.{result_unwrap_or};
 ghost use Rattle.records.specs.Refusals.{outcome_of};
 ghost use Rattle.bits.specs.Bits.{pack};
 ghost use Rattle.table.specs.Limits.{most_wires};
 ghost use Rattle.table.specs.Marks.{counts};
 ghost use Rattle.table.specs.Calls.{wrong_width, count_of};
 ghost use Rattle.choosers.specs.Trying.{better, try_takers, try_lenders, score_in, best_pair};
-ghost use Rattle.choosers.specs.Greedy.{greedy_from};
+ghost use Rattle.choosers.specs.Greedy.{greedy_from, ended};
 ghost use Rattle.choosers.specs.Results.{most_pairs, trials_limit, best_said, tried_of, other_rows, marks_left, stored, round_after, handed_back, greedy_of};
 
 use crate::answers::{Pair, PairList, Rounds};
@@ -149,9 +150,11 @@ fn all_rounds(table: Table) -> Rounds
     rounds
 }
 
-// Chooses pairs greedily from a table: the list, the table as the accepted offers leave it, and the number of trials; or 27.
+// Chooses pairs greedily from a table: the list, the table as the accepted offers leave it, and the number of trials; or 27, beside which
+// an empty list, the table given and no trials stand.
 pub fn greedy(table: Table) -> Result<Rounds, Refusal>
-    ensures { outcome_of result ≡ greedy_of table }
+    ensures value { outcome_of result ≡ greedy_of table }
+    ensures ended { result_unwrap_or result (handed_back (ended table)) ≡ beside (handed_back (ended table)) (greedy_of table) }
 {
     // The count is refused exactly where the choice is.
     count(table)?;

@@ -15,7 +15,7 @@ use records::{Cause, Form, Record, Refusal, record_at, shape};
 fn is_static(kind: u8) -> bool
     ensures { result ≡ static_kind kind }
 {
-    matches!(shape(kind), Some(outline) if matches!(outline.form, Form::StaticWidth))
+    matches!(shape(kind), Some(outline) if outline.form == Form::StaticWidth)
 }
 
 // A width of 1 to the most wires, or 3.

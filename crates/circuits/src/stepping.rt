@@ -1,5 +1,5 @@
-// The next instruction of a static circuit, whole. Start pass, rewrite and writer go by `step_at`; the reader goes by
-// its sketch.
+// The next instruction of a static circuit, whole. `rewrite` goes by `step_at`; the reader and the writer go by
+// `take_step`, and the pass for the table by `sketch_at`.
 ghost use Rattle.std.specs.Prelude.{◌≡◌};
 ghost use Rattle.circuits.specs.Stepping.{found_of, kind_allowed, step_at};
 

@@ -112,3 +112,7 @@ read_pairs t s = pairs_from (suc (length s)) s 0 0 (record { table = t; pairs = 
 abbrev pub paired : Outcome Growing → Outcome Paired
 paired (done g) = done (record { count = length g.pairs; table = g.table; lenders = record { lenders = lenders_in g.pairs } })
 paired (refused number place) = refused number place
+
+-- beside a refusal: no pairs, the table given, and nobody lends
+abbrev pub unpaired : Table → Paired
+unpaired t = record { count = 0; table = t; lenders = record { lenders = nobody_lends } }

@@ -1,11 +1,12 @@
 // The pairs of a list, left to right: 24, 25, and then what the table answers to the pair's offer, at the pair's index.
 ghost use Rattle.std.specs.Prelude.{◌≡◌, ◌<◌};
-ghost use Rattle.basics.specs.Outcome.{done};
+ghost use Rattle.std.specs.Result.{result_unwrap_or};
+ghost use Rattle.basics.specs.Outcome.{done, beside};
 ghost use Rattle.records.specs.Refusals.{outcome_of};
 ghost use Rattle.records.specs.Records.{stands};
 ghost use Rattle.table.specs.Marks.{Clean};
 ghost use Rattle.table.specs.Calls.{offered};
-ghost use Rattle.pairs.specs.Listing.{found_pair, pair_kind, pair_of, pair_at, read_pairs, paired};
+ghost use Rattle.pairs.specs.Listing.{found_pair, pair_kind, pair_of, pair_at, read_pairs, paired, unpaired};
 
 use crate::lending::Lenders;
 use records::{Cause, Form, Record, Refusal, Wire, record_at, shape};
@@ -23,7 +24,7 @@ pub struct Paired {
 fn is_pair_kind(kind: u8) -> bool
     ensures { result ≡ pair_kind kind }
 {
-    matches!(shape(kind), Some(outline) if matches!(outline.form, Form::Reuse))
+    matches!(shape(kind), Some(outline) if outline.form == Form::Reuse)
 }
 
 // A record as the next pair of the list: the lender, the taker, and the place after the record.
@@ -64,9 +65,11 @@ fn take(table: Table, index: usize, lender: Wire, taker: Wire) -> Result<Table, 
     table::offer_clean(table, lender, taker)
 }
 
-// Reads a pair list against a table: each pair is offered to the table as those before it leave it.
+// Reads a pair list against a table: each pair is offered to the table as those before it leave it. Beside a refusal the table given and
+// no lenders stand.
 pub fn read_pairs(table: Table, list: &[u8]) -> Result<Paired, Refusal>
-    ensures { outcome_of result ≡ paired (read_pairs table list.now) }
+    ensures value { outcome_of result ≡ paired (read_pairs table list.now) }
+    ensures kept { result_unwrap_or result (unpaired table) ≡ beside (unpaired table) (paired (read_pairs table list.now)) }
 {
     let mut now = table;
     let mut lenders = Lenders::none();

@@ -4,4 +4,3 @@ pub mod DemandThree
 pub mod Choosing
 pub mod Meaning
 pub mod WorkedExamples
-pub mod Beside

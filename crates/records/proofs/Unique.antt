@@ -98,6 +98,9 @@ pub unwrapped : {A : Type 0} (r : Result A Refusal) (given : A) → result_unwra
 unwrapped (Ok a) given = refl
 unwrapped (Err r) given = refl
 
+pub unwraps : {A : Type 0} (r : Result A Refusal) {o : Outcome A} (given : A) → outcome_of r ≡ o → result_unwrap_or r given ≡ beside given o
+unwraps r given e = unwrapped r given ∙ ap (beside given) e
+
 -- a value that is done is told by `Ok`
 pub done_ok : {A : Type 0} (r : Result A Refusal) {a : A} → outcome_of r ≡ done a → IsOk r
 done_ok (Ok a) e = refl

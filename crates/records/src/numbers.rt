@@ -9,16 +9,16 @@ pub struct Line(pub u8);
 pub struct Wire(pub u8);
 
 // A line of the dynamic circuit.
-#[derive(Clone, Copy, PartialEq, Eq)]
+#[derive(Clone, Copy)]
 pub struct Qubit(pub u8);
 
 // What receives one measurement.
-#[derive(Clone, Copy, PartialEq, Eq)]
+#[derive(Clone, Copy)]
 pub struct Bit(pub u8);
 
 // The eight bytes of an angle, in the order in which they stand. Nothing here reads them. No array: in a definition that is a list of
 // any length, and `round_trip` is of every instruction.
-#[derive(Clone, Copy, PartialEq, Eq)]
+#[derive(Clone, Copy)]
 pub struct Angle(
     pub u8,
     pub u8,

@@ -1,5 +1,7 @@
 // An offer to a table in which every mark that is set counts, as it is in each table that took an offer.
 ghost use Rattle.std.specs.Prelude.{◌≡◌, ◌<◌, get_or};
+ghost use Rattle.std.specs.Result.{result_unwrap_or};
+ghost use Rattle.basics.specs.Outcome.{beside};
 ghost use Rattle.records.specs.Refusals.{outcome_of};
 ghost use Rattle.table.specs.Limits.{most_wires};
 ghost use Rattle.table.specs.Rule.{accepted_clean};
@@ -42,7 +44,8 @@ fn accept_clean(table: Table, lender: Wire, taker: Wire) -> Table
 
 // What `offer` answers to such a table, in less time.
 pub fn offer_clean(table: Table, lender: Wire, taker: Wire) -> Result<Table, Refusal>
-    ensures { outcome_of result ≡ offered_clean table lender.0 taker.0 }
+    ensures value { outcome_of result ≡ offered_clean table lender.0 taker.0 }
+    ensures kept { result_unwrap_or result table ≡ beside table (offered_clean table lender.0 taker.0) }
 {
     judge(table, lender, taker)?;
     Ok(accept_clean(table, lender, taker))

@@ -1,6 +1,8 @@
 // Whether a wire may lend to another, and what an offer makes of the table. The lender and the taker are two parameters, as C hands them
 // in and as the definitions take them.
 ghost use Rattle.std.specs.Prelude.{◌≡◌};
+ghost use Rattle.std.specs.Result.{result_unwrap_or};
+ghost use Rattle.basics.specs.Outcome.{beside};
 ghost use Rattle.records.specs.Refusals.{outcome_of};
 ghost use Rattle.bits.specs.Bits.{pack};
 ghost use Rattle.table.specs.Limits.{most_wires};
@@ -111,9 +113,10 @@ pub fn accept(table: Table, lender: Wire, taker: Wire) -> Table
     }
 }
 
-// The table after the offer, or why the offer is refused.
+// The table after the offer, or why the offer is refused; then the table given stands beside the refusal.
 pub fn offer(table: Table, lender: Wire, taker: Wire) -> Result<Table, Refusal>
-    ensures { outcome_of result ≡ offered table lender.0 taker.0 }
+    ensures value { outcome_of result ≡ offered table lender.0 taker.0 }
+    ensures kept { result_unwrap_or result table ≡ beside table (offered table lender.0 taker.0) }
 {
     judge(table, lender, taker)?;
     Ok(accept(table, lender, taker))

@@ -5,10 +5,13 @@ ghost use Rattle.circuits.specs.Limits.{most_instructions, header_length};
 ghost use Rattle.circuits.specs.Stepping.{Steps};
 ghost use Rattle.circuits.specs.Reading.{read_circuit};
 ghost use Rattle.circuits.specs.Rewriting.{steps_of};
+ghost use Rattle.std.specs.Result.{result_unwrap_or};
+ghost use Rattle.basics.specs.Outcome.{beside};
 ghost use Rattle.records.specs.Refusals.{outcome_of};
 ghost use Rattle.records.specs.Records.{line};
 ghost use Rattle.circuits.specs.declared.sketching.Sketch.TheVariants as sketch;
 ghost use Rattle.table.specs.Limits.{most_wires};
+ghost use Rattle.table.specs.Marks.{empty_table};
 ghost use Rattle.table.specs.Starting.{no_rows, rows_sketched, rows_pass, start_row, start_from, started};
 
 use crate::rows::{unused, with};
@@ -109,9 +112,10 @@ pub fn table_from(width: u8, sets: Sets) -> Table
     }
 }
 
-// The table of a circuit, or the reader's refusal.
+// The table of a circuit, or the reader's refusal; then the table of no wires stands beside it.
 pub fn start(circuit: &[u8]) -> Result<Table, Refusal>
-    ensures { outcome_of result ≡ started circuit.now }
+    ensures value { outcome_of result ≡ started circuit.now }
+    ensures empty { result_unwrap_or result empty_table ≡ beside empty_table (started circuit.now) }
 {
     let valid = read(circuit)?;
     Ok(table_from(valid.width, all_sets(circuit)))

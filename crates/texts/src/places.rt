@@ -13,7 +13,7 @@ use records::{Cause, record_at};
 fn is_awaited(cause: Cause, last: bool) -> bool
     ensures { result ≡ awaited (number_of cause) last }
 {
-    matches!(cause, Cause::CutBody) && !last
+    cause == Cause::CutBody && !last
 }
 
 // Puts what is printed of a place of `piece` into a buffer as `put_bytes` puts bytes. The piece is a part of an input, `place` is

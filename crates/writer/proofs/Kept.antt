@@ -202,7 +202,7 @@ module _ (s : List ℕ) (width : ℕ) where
               let stood : place_at newNotes index ≡ at = ap (λ z. get_or z index 0) places-are ∙ get_or-set_other notes.places (index + 1) index next 0 (λ e. omega arith) ∙ g.here in
               record {
                 stands = rw (stood, after) t.stands;
-                note = ap (λ z. get_or z index (noted form.One 0 0)) all-are ∙ get_or-set_same notes.all index _ _ (omega (arith, notes.sized))
+                note = ap (λ z. get_or z index (noted form.Reset 0 0)) all-are ∙ get_or-set_same notes.all index _ _ (omega (arith, notes.sized))
                     ∙ ap note_sketched (sym t.like) ∙ note_like t.instruction;
               }
 
@@ -212,5 +212,5 @@ module _ (s : List ℕ) (width : ℕ) where
               ap (λ z. get_or z j 0) places-are ∙ get_or-set_other notes.places (index + 1) j next 0 (λ e. omega arith),
               ap (λ z. get_or z (j + 1) 0) places-are ∙ get_or-set_other notes.places (index + 1) (j + 1) next 0 (λ e. omega arith),
             ) n.stands;
-            note = ap (λ z. get_or z j (noted form.One 0 0)) all-are ∙ get_or-set_other notes.all index j _ _ (λ e. omega arith) ∙ n.note;
+            note = ap (λ z. get_or z j (noted form.Reset 0 0)) all-are ∙ get_or-set_other notes.all index j _ _ (λ e. omega arith) ∙ n.note;
           }

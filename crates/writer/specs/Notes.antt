@@ -68,7 +68,7 @@ note_sketched (sketch.Two l m) = noted form.Two l.0 m.0
 -- ## By the index
 
 abbrev pub note_at : Notes → ℕ → Note
-note_at notes k = get_or notes.all k (noted form.One 0 0)
+note_at notes k = get_or notes.all k (noted form.Reset 0 0)
 
 abbrev pub first_at : Notes → ℕ → ℕ
 first_at notes k = (note_at notes k).first.0

@@ -8,7 +8,6 @@ use native.Mathlib.Omega.{arith}
 use native.Mathlib.Numerals.{add-one}
 use lib.ListN.{length, take, drop, set, length-append, length-take, length-drop, take-append-drop}
 use lib.Seq.{set_split, take_at, drop_at, drop-drop, length-take-le}
-use borrow.Rule.Slice.PartMut.{put_mid}
 use borrow.Author.Tests.{le-leb, lt-leb, le-ltb, lt-ltb, leb-true}
 use Rattle.basics.specs.Choice.{pick}
 use Rattle.basics.specs.Outcome.{Outcome, done, refused}
@@ -87,14 +86,6 @@ module _ {old : List ℕ} {at : ℕ} {xs new : List ℕ} {to : ℕ} where
     holds = rw (le-leb (at + length xs) (length old) l) w.holds;
     end = rw (le-leb (at + length xs) (length old) l) w.end;
   }
-
-  -- a part of the buffer that was written over
-  pub mid_placed : {k : ℕ} {ys : List ℕ} → ys ≡ xs → k ≡ length xs → new ≡ put_mid at k old ys → to ≡ at + length xs
-      → at + length xs ≤ length old → Placed old at xs new to
-  unfolding put
-  mid_placed same size e end l =
-      let behind = ap (λ (z : List ℕ). take at old ++ (xs ++ z)) (drop-drop (length xs) at old) in
-      wrote_placed (record { holds = e ∙ rw (same, size) behind; end = end }) l
 
 -- where there is not, nothing is stored and the place stays
 pub no_room : {old : List ℕ} {at : ℕ} {xs : List ℕ} → length old < at + length xs → Placed old at xs old at

@@ -1,12 +1,27 @@
 // Bytes and numbers put into a lent buffer. One function stores; every writer of records and texts goes by it.
 #![tactic(auto)]
 
-ghost use Rattle.writing.specs.Writing.{Placed};
+ghost use Rattle.std.specs.Prelude.{◌+◌, ◌≤◌, length};
+ghost use Rattle.writing.specs.Writing.{Placed, Wrote};
 ghost use Rattle.writing.specs.Decimals.{decimal};
+
+// Stores the bytes one after the other, where there is room for all of them. Not by `copy_from_slice`: that asks the linker for
+// `memmove`, and the archive is promised to need `memcpy` and `memset` alone (`include/thaksipho.h`).
+fn copy(out: &mut [u8], at: usize, bytes: &[u8]) -> usize
+    requires { at + length bytes.now ≤ length out.old }
+    ensures { Wrote out.old at bytes.now out.new result }
+{
+    let mut to = at;
+    for byte in bytes {
+        out[to] = *byte;
+        to += 1;
+    }
+    to
+}
 
 // Puts bytes into a buffer from a place on and gives the place after them. Where there is not room for all of
 // them nothing is stored and the place stays: `Placed` says it of this and of all that put by it, so none answers an `Option`.
-#[tactic(auto, using(crate::proofs::Puts::mid_placed))]
+#[tactic(auto, using(crate::proofs::Puts::no_room, crate::proofs::Puts::wrote_placed))]
 pub fn put_bytes(out: &mut [u8], at: usize, bytes: &[u8]) -> usize
     ensures { Placed out.old at bytes.now out.new result }
 {
@@ -14,9 +29,7 @@ pub fn put_bytes(out: &mut [u8], at: usize, bytes: &[u8]) -> usize
     if out.len() < count || out.len() - count < at {
         return at;
     }
-    let to = at + count;
-    out[at..to].copy_from_slice(bytes);
-    to
+    copy(out, at, bytes)
 }
 
 // The digits of the largest number.

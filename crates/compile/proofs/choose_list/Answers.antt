@@ -13,13 +13,13 @@ use Rattle.compile.proofs.Chosen.{started_right, list_chosen, chosen_short}
 use Rattle.compile.proofs.choose_list.Goals as goal
 
 pub returns-in_default : goal.returns-in_default
-returns-in_default c = (omega arith, ap chosen_list c.in_default.ensures)
+returns-in_default c = (omega arith, ap chosen_list c.in_default.ensures.value)
 
 pub unwrap-rounds-requires : goal.unwrap-rounds-requires
-unwrap-rounds-requires c = let right = started_right _ _ c.in-Ok.ensures in
-    done_ok c.greedy.result (c.greedy.ensures ∙ greedy_made c.in-Ok.table right)
+unwrap-rounds-requires c = let right = started_right _ _ c.in-Ok.ensures.value in
+    done_ok c.greedy.result (c.greedy.ensures.value ∙ greedy_made c.in-Ok.table right)
 
 pub returns : goal.returns
-returns c = let made = sym (ap outcome_of c.unwrap-rounds.ensures) ∙ c.greedy.ensures in
-    let put = rw (list_chosen _ _ c.in-Ok.ensures _ made) at c.put_list.ensures in
+returns c = let made = sym (ap outcome_of c.unwrap-rounds.ensures) ∙ c.greedy.ensures.value in
+    let put = rw (list_chosen _ _ c.in-Ok.ensures.value _ made) at c.put_list.ensures in
     (placed_within put (omega arith), written_front (placed_written put deciding_list_bytes (chosen_short _) (omega arith)))

@@ -10,11 +10,11 @@ use Rattle.listing.proofs.Choices.{list_sized, further_room, listing_written}
 use Rattle.listing.proofs.write_choice.Goals as goal
 
 pub unwrap-rounds-requires : goal.unwrap-rounds-requires
-unwrap-rounds-requires c = done_ok c.greedy.result (c.greedy.ensures ∙ greedy_made c.args.table c.requires.table_value)
+unwrap-rounds-requires c = done_ok c.greedy.result (c.greedy.ensures.value ∙ greedy_made c.args.table c.requires.table_value)
 
 pub write_pairs-requires : goal.write_pairs-requires
 write_pairs-requires c = let t = c.args.table in
-    let chosen = ap (beside (handed_back (ended t))) (sym (ap outcome_of c.unwrap-rounds.ensures) ∙ c.greedy.ensures) in
+    let chosen = ap (beside (handed_back (ended t))) (sym (ap outcome_of c.unwrap-rounds.ensures) ∙ c.greedy.ensures.value) in
     record {
       sized = list_sized t c.requires.table_value _ chosen;
       list_in_bounds = further_room t c.requires.table_value _ chosen c.requires.longest_listing_in_bounds c.put_summary-to.ensures;
@@ -22,5 +22,5 @@ write_pairs-requires c = let t = c.args.table in
 
 pub returns : goal.returns
 returns c = let t = c.args.table in
-    let chosen = ap (beside (handed_back (ended t))) (sym (ap outcome_of c.unwrap-rounds.ensures) ∙ c.greedy.ensures) in
+    let chosen = ap (beside (handed_back (ended t))) (sym (ap outcome_of c.unwrap-rounds.ensures) ∙ c.greedy.ensures.value) in
     listing_written t c.requires.table_value _ chosen c.requires.longest_listing_in_bounds c.put_summary-to.ensures c.write_pairs.ensures

@@ -5,10 +5,10 @@ use Rattle.listing.proofs.Choices.{started_right, listing_printed, refusal_print
 use Rattle.listing.proofs.write_listing.Goals as goal
 
 pub write_choice-requires-clause-table_value : goal.write_choice-requires-clause-table_value
-write_choice-requires-clause-table_value c = started_right _ (sym c.in-Ok.ensures)
+write_choice-requires-clause-table_value c = started_right _ (sym c.in-Ok.ensures.value)
 
 pub returns-in-Ok : goal.returns-in-Ok
-returns-in-Ok c = listing_printed _ (sym c.in-Ok.ensures) c.write_choice.ensures
+returns-in-Ok c = listing_printed _ (sym c.in-Ok.ensures.value) c.write_choice.ensures
 
 pub returns-in-Err : goal.returns-in-Err
-returns-in-Err c = refusal_printed _ (sym c.in-Err.ensures) (omega arith) (rw c.number.ensures at c.put_refusal.ensures)
+returns-in-Err c = refusal_printed _ (sym c.in-Err.ensures.value) (omega arith) (rw c.number.ensures at c.put_refusal.ensures)

@@ -5,4 +5,4 @@ use Rattle.table.proofs.CleanOffers.{same_offered}
 use Rattle.pairs.proofs.listing.take.Goals as goal
 
 pub returns : goal.returns
-returns c = c.offer_clean.ensures ∙ same_offered c.args.table c.args.lender.0 c.args.taker.0 (c.requires (omega arith))
+returns c = c.offer_clean.ensures.value ∙ same_offered c.args.table c.args.lender.0 c.args.taker.0 (c.requires (omega arith))

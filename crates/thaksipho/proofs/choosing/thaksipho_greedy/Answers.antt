@@ -7,13 +7,13 @@ use Rattle.thaksipho.proofs.ListWords.{listed_refused, greedy_place, relisted}
 use Rattle.thaksipho.proofs.choosing.thaksipho_greedy.Goals as goal
 
 pub hand_list-requires : goal.hand_list-requires
-hand_list-requires c = greedy_sized _ _ (sym c.in-Ok.ensures)
+hand_list-requires c = greedy_sized _ _ (sym c.in-Ok.ensures.value)
 
 pub returns-in-Ok : goal.returns-in-Ok
 returns-in-Ok c = relisted
-    (c.in-Ok.ensures ∙ ap greedy_of c.table_of.ensures)
+    (c.in-Ok.ensures.value ∙ ap greedy_of c.table_of.ensures)
     c.hand_list.ensures
 
 pub returns-in-Err : goal.returns-in-Err
-returns-in-Err c = let e = sym (c.in-Err.ensures ∙ ap greedy_of c.table_of.ensures) in
+returns-in-Err c = let e = sym (c.in-Err.ensures.value ∙ ap greedy_of c.table_of.ensures) in
     listed_refused c.refusal_word.ensures (greedy_place _ e) (ap (list_value _) e) (ap (list_written _) e)

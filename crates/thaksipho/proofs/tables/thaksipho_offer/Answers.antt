@@ -9,11 +9,11 @@ use Rattle.thaksipho.proofs.tables.thaksipho_offer.Goals as goal
 pub returns-in-Ok : goal.returns-in-Ok
 returns-in-Ok c = let a = c.args in
     reworded _
-    (c.in-Ok.ensures ∙ ap (λ (t : Table). offered t a.lender a.taker) c.table_of.ensures)
+    (c.in-Ok.ensures.value ∙ ap (λ (t : Table). offered t a.lender a.taker) c.table_of.ensures)
     c.hand_back.ensures
 
 pub returns-in-Err : goal.returns-in-Err
 returns-in-Err c = let a = c.args in
     let e =
-    sym (c.in-Err.ensures ∙ ap (λ (t : Table). offered t a.lender a.taker) c.table_of.ensures) in
+    sym (c.in-Err.ensures.value ∙ ap (λ (t : Table). offered t a.lender a.taker) c.table_of.ensures) in
     refusal_worded c.refusal_word.ensures (refused_written _ e) (sound_place e (offered_sound _ a.lender a.taker))

@@ -5,8 +5,8 @@ use Rattle.thaksipho.proofs.TableWords.{reworded, refused_written, started_sound
 use Rattle.thaksipho.proofs.tables.thaksipho_start.Goals as goal
 
 pub returns-in-Ok : goal.returns-in-Ok
-returns-in-Ok c = reworded _ c.in-Ok.ensures c.hand_back.ensures
+returns-in-Ok c = reworded _ c.in-Ok.ensures.value c.hand_back.ensures
 
 pub returns-in-Err : goal.returns-in-Err
-returns-in-Err c = let e = sym c.in-Err.ensures in
+returns-in-Err c = let e = sym c.in-Err.ensures.value in
     refusal_worded c.refusal_word.ensures (refused_written _ e) (sound_place e (started_sound _))

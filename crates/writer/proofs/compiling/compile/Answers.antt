@@ -15,7 +15,7 @@ pub returns-in_err-paired : goal.returns-in_err-paired
 returns-in_err-paired c = let p = err_from_is_err_and c.from_residual-in_err-paired.result c.from_residual-in_err-paired.ensures.1 in
     let a = accepted _ c.in_ok-valid.ensures.result_value in
     let start = table_is _ c.args.list.now a c.in_ok-valid.ensures.rows_after c.table_from.ensures in
-    rw (p.1, p.2) (compiled_refused (told_refused _ _ a start c.in_err-paired.ensures _))
+    rw (p.1, p.2) (compiled_refused (told_refused _ _ a start c.in_err-paired.ensures.value _))
 
 pub invariant_of-source-clause-narrow : goal.invariant_of-source-clause-narrow
 invariant_of-source-clause-narrow c = few_wires _ _ (accepted _ c.in_ok-valid.ensures.result_value)
@@ -29,9 +29,9 @@ invariant_of-source-clause-low c = notes_low _ _ (accepted _ c.in_ok-valid.ensur
 pub write_in_room-requires-clause-circuit_len : goal.write_in_room-requires-clause-circuit_len
 write_in_room-requires-clause-circuit_len c = let a = accepted _ c.in_ok-valid.ensures.result_value in
     let start = table_is _ c.args.list.now a c.in_ok-valid.ensures.rows_after c.table_from.ensures in
-    told_length _ _ a start _ c.in_ok-paired.ensures
+    told_length _ _ a start _ c.in_ok-paired.ensures.value
 
 pub returns : goal.returns
 returns c = let a = accepted _ c.in_ok-valid.ensures.result_value in
     let start = table_is _ c.args.list.now a c.in_ok-valid.ensures.rows_after c.table_from.ensures in
-    compiled_to (told_accepted _ _ a start _ c.in_ok-paired.ensures _) c.write_in_room.ensures
+    compiled_to (told_accepted _ _ a start _ c.in_ok-paired.ensures.value _) c.write_in_room.ensures
