@@ -1,8 +1,8 @@
 -- What greedy settles, by the table's width. Assumes nothing.
 use Prim.Native.Nat.{ℕ}
-use mathlib.Core.Path.{◌≡◌, refl, sym, ap, ◌∙◌}
+use mathlib.Core.Path.{◌≡◌, refl, sym, ap}
 use mathlib.Core.Bool.{Bool, true, false}
-use Rattle.basics.specs.Outcome.{done, refused, handing, beside}
+use Rattle.basics.specs.Outcome.{done, refused, handing}
 use Rattle.basics.proofs.Outcomes.{not_refused}
 use Rattle.table.specs.Calls.{wrong_width, count_of}
 use Rattle.table.specs.declared.tables.Table.{Table}
@@ -13,10 +13,6 @@ module _ (t : Table) where
   pub greedy_made : wrong_width t ≡ false → greedy_of t ≡ done (handed_back (greedy_from t))
   unfolding greedy_of
   greedy_made e = rw e
-
-  pub greedy_refused : wrong_width t ≡ true → greedy_of t ≡ refused 27 0
-  unfolding greedy_of
-  greedy_refused e = rw e
 
   -- marks are counted where the width is right, and the count is refused as greedy is
   pub counted_right : (n : ℕ) → count_of t ≡ done n → wrong_width t ≡ false

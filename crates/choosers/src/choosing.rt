@@ -34,6 +34,7 @@ fn better_of(best: Option<Tried>, new: Tried) -> Option<Tried>
 }
 
 // How many marks the rows of the other lenders keep once a lender with these marks lends to the taker.
+#[tactic(auto, unfolding(bits::specs::Bits::total))]
 fn marks_left(rows: &[Row; Table::ROWS], width: u8, given: Row, taker: Wire) -> u32
     requires rows_len { length rows.now ≡ most_wires }
     requires width_le_most_wires { width ≤ most_wires }
@@ -48,7 +49,7 @@ fn marks_left(rows: &[Row; Table::ROWS], width: u8, given: Row, taker: Wire) -> 
 
 // Tries the takers of one lender, rising. Its own marks are given, and its row is empty. Most lenders have no marks left in the later
 // rounds, so that is tested once and not for each taker.
-#[tactic(auto, using(crate::proofs::Scores::tries_none))]
+#[tactic(auto, using(crate::proofs::Scores::tries_none, crate::proofs::Scores::tries_yes, crate::proofs::Scores::tries_not), unfolding(crate::specs::Trying::try_takers))]
 fn try_takers(
     table: Table,
     rows: &[Row; Table::ROWS],
@@ -79,6 +80,7 @@ fn try_takers(
 }
 
 // Tries every pair, by rising lender, then rising taker.
+#[tactic(auto, using(crate::proofs::Scores::own_row, crate::proofs::Scores::set_aside, crate::proofs::Scores::put_back), unfolding(crate::specs::Trying::try_lenders))]
 fn try_pairs(table: Table) -> Option<Tried>
     requires { wrong_width table ≡ false }
     ensures { best_said result ≡ try_lenders (counts table) (score_in table) table.width table.width }
@@ -112,6 +114,7 @@ fn yes_marks(table: Table) -> u32
 }
 
 // One round: the best pair is accepted.
+#[tactic(auto, unfolding(crate::specs::Trying::best_pair))]
 fn round(rounds: Rounds, marks: u32) -> Rounds
     requires table_value { wrong_width rounds.table ≡ false }
     requires length_lt_most_pairs { rounds.list.length < most_pairs }
@@ -133,6 +136,7 @@ fn round(rounds: Rounds, marks: u32) -> Rounds
 }
 
 // Rounds until no yes is left. The loop counts nothing.
+#[tactic(auto, using(crate::proofs::Underway::underway_first, crate::proofs::Underway::underway_more))]
 fn all_rounds(table: Table) -> Rounds
     requires { wrong_width table ≡ false }
     ensures { result ≡ handed_back (greedy_from table) }

@@ -14,6 +14,7 @@ use table::Table;
 pub const LONGEST: usize = texts::LONGEST_COUNTS + PairList::MOST * texts::LONGEST_PAIR;
 
 // Writes the lines of the pairs, in the order of the list.
+#[tactic(auto, using(crate::proofs::Choices::lines_end))]
 fn write_pairs(out: &mut [u8], at: usize, list: PairList) -> usize
     requires sized { Sized list }
     requires list_in_bounds { at + length (pair_lines (pairs_of list)) ≤ length out.old }
@@ -45,6 +46,7 @@ fn write_choice(out: &mut [u8], table: Table) -> usize
 }
 
 // Writes the listing of a circuit, or its refusal.
+#[tactic(auto, using(crate::proofs::Choices::started_right))]
 fn write_listing(out: &mut [u8], circuit: &[u8]) -> usize
     requires { longest_listing ≤ length out.old }
     ensures { Written out.old 0 longest_listing (printed circuit.now) out.new result }

@@ -12,8 +12,6 @@ use Rattle.basics.specs.Outcome.{Outcome, done, refused}
 use Rattle.basics.proofs.Outcomes.{not_refused}
 use Rattle.orders.specs.Runs.{Pair}
 use Rattle.records.specs.Records.{Standing, stands, over, record_at}
-use Rattle.records.specs.declared.numbers.Wire.{Wire}
-use Rattle.records.specs.declared.instructions.Record.{Record}
 use Rattle.records.specs.declared.instructions.Record.TheVariants.{StaticWidth, DynamicWidth, Step, Reuse}
 use Rattle.records.proofs.Standings.{over_end}
 use Rattle.records.proofs.RoundTrip.{Back, round_trip}
@@ -24,18 +22,10 @@ use Rattle.table.specs.declared.tables.Table.{Table}
 use Rattle.table.proofs.Offers.{taken_updated}
 use Rattle.pairs.specs.Lending.{nobody_lends, lent, lenders_in}
 use Rattle.pairs.specs.Listing.{Next, pair, end, pair_kind, pair_record, pair_of, pair_at, pairs_from, read_pairs, paired}
-use Rattle.pairs.specs.declared.listing.Paired.{Paired}
 use Rattle.pairs.specs.declared.lending.Lenders.{Lenders}
 
 not_end : {p : Pair} {next : ℕ} → ◌≡◌ {A = Outcome Next} (done end) (done (pair p next)) → ⊥
 not_end {p} {next} e = let z : ◌≡◌ {A = ℕ} 0 1 = cc in omega arith
-
--- another record is no pair
-pub not_pair : (index : ℕ) (r : Record) (next : ℕ) → ((l t : Wire) → r ≡ Reuse l t → ⊥) → pair_of index (done (stands r next)) ≡ refused 24 index
-not_pair index (StaticWidth w) next other = refl
-not_pair index (DynamicWidth q b) next other = refl
-not_pair index (Step i) next other = refl
-not_pair index (Reuse l t) next other = absurd (other l t refl)
 
 -- a pair that was found: its record's bytes stand there
 pub pair_back : (s : List ℕ) (at index : ℕ) {p : Pair} {next : ℕ} → pair_at s at index ≡ done (pair p next) → Back s at (pair_record p) next

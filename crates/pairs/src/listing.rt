@@ -38,6 +38,7 @@ fn pair_of(item: Record, next: usize, index: usize) -> Result<Option<(Wire, Wire
 }
 
 // The pair at a place, nothing at the end of the list, or 24, 25.
+#[tactic(auto, using(std::proofs::lemmas::Bool::Decides::nat_tests), unfolding(crate::specs::Listing::pair_at))]
 fn pair_at(list: &[u8], at: usize, index: usize) -> Result<Option<(Wire, Wire, usize)>, Refusal>
     ensures { found_pair result ≡ pair_at list.now at index }
 {

@@ -1,7 +1,7 @@
 -- The bits that the functions of one row compute, at any number of bits k. Assumes nothing.
 use mathlib.Core.Path.{◌≡◌, refl, sym, ap, ◌∙◌}
 use mathlib.Core.Logic.{◌≢◌}
-use mathlib.Core.Bool.{Bool, true, false, not, ◌&&◌, ◌||◌, and-true, and-false}
+use mathlib.Core.Bool.{Bool, true, false, not, ◌&&◌, ◌||◌, and-false}
 use Prim.Native.Nat.{ℕ, ◌^◌, ◌<◌, zero-le}
 use native.Mathlib.Omega.{arith}
 use native.Mathlib.Decide.{dec_lt}
@@ -54,10 +54,6 @@ module _ (k lenders takers row lender : ℕ) where
   counting_used h = nothing_packed k (λ v. rw h)
 
 module _ (k given row taker : ℕ) where
-  same_yes : (a b c d : Bool) → d ≡ true → (a && b) ≡ (a && (b && (c || d)))
-  same_yes a b true d h = rw and-true
-  same_yes a b false d h = rw (h, and-true)
-
   same_no : (v : ℕ) (d : Bool) → eqb v taker ≡ d → bit taker row ≡ false → (bit v row && bit v given) ≡ (not d && (bit v row && (bit v given || bit taker row)))
   same_no v true e h = let z : bit v row ≡ false = ap (λ (x : ℕ). bit x row) (eqb-true v taker e) ∙ h in rw z
   same_no v false e h = rw h (or_false (bit v row) (bit v given))
@@ -65,9 +61,6 @@ module _ (k given row taker : ℕ) where
       or_false : (a b : Bool) → (a && b) ≡ (a && (b || false))
       or_false a true = refl
       or_false a false = refl
-
-  pub left_yes : bit taker row ≡ true → pack k (λ v. not (eqb v taker) && bit v row) ≡ pack k (row_after (λ v. bit v given) (λ v. bit v row) taker)
-  left_yes h = pack_ext k (λ v l. same_yes (not (eqb v taker)) (bit v row) (bit v given) (bit taker row) h)
 
   pub left_no : row < 2 ^ k → given < 2 ^ k → bit taker row ≡ false → bit_and row given ≡ pack k (row_after (λ v. bit v given) (λ v. bit v row) taker)
   left_no r g h = (same (and_is (own k r) (own k g)) (λ v l. same_no v (eqb v taker) refl h)).is

@@ -1,10 +1,10 @@
 -- Past the rows of the wires below the width no mark counts, so a pass over the rows ends there, and rows that were
 -- 0 stay so. Assumes nothing.
-use mathlib.Core.Path.{◌≡◌, refl, sym, ap, ◌∙◌}
+use mathlib.Core.Path.{◌≡◌, refl, ◌∙◌}
 use mathlib.Core.Bool.{Bool, true, false}
 use mathlib.Core.List.{List}
 use Prim.Native.Nat.{ℕ, ◌+◌, ◌≤◌, ◌<◌}
-use native.Mathlib.Nat.{le_refl, not-suc-le-zero}
+use native.Mathlib.Nat.{le_refl}
 use native.Mathlib.Omega.{arith}
 use native.Mathlib.Decide.{dec_lt}
 use borrow.Author.Tests.{le-ltb, ltb-true}
@@ -60,9 +60,6 @@ zero_at n i = go (dec_lt i n)
     go (no l) = get_or-eq_default (replicate n 0) 0 {n = i} (omega (arith, length-replicate {A = ℕ} n 0))
 
 module _ (f : ℕ → ℕ) where
-  pub filling_starts : (old : List ℕ) → Filling f old 0 old
-  filling_starts old = record { size = refl; front = λ j l. absurd (not-suc-le-zero l); rest = λ j l. refl }
-
   pub filling_more : (u : ℕ) {old : List ℕ} (rows : List ℕ) (x : ℕ) → u < length old → Filling f old u rows → x ≡ f u
       → Filling f old (u + 1) (set rows u x)
   filling_more u rows x l h e = record {

@@ -1,5 +1,5 @@
 -- What each call on a table settles.
-use Rattle.std.specs.Prelude.{ℕ, Bool, true, false, ◌||◌, eqb, ltb, leb}
+use Rattle.std.specs.Prelude.{ℕ, Bool, ◌||◌, eqb, ltb, leb}
 use Rattle.basics.specs.Choice.{pick}
 use Rattle.basics.specs.Outcome.{Outcome, done, refused, handing}
 use Rattle.bits.specs.Bits.{bit}

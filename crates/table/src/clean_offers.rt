@@ -43,6 +43,7 @@ fn accept_clean(table: Table, lender: Wire, taker: Wire) -> Table
 }
 
 // What `offer` answers to such a table, in less time.
+#[tactic(auto, using(crate::proofs::Offers::taken_inside))]
 pub fn offer_clean(table: Table, lender: Wire, taker: Wire) -> Result<Table, Refusal>
     ensures value { outcome_of result ≡ offered_clean table lender.0 taker.0 }
     ensures kept { result_unwrap_or result table ≡ beside table (offered_clean table lender.0 taker.0) }

@@ -36,6 +36,7 @@ fn marks_of(table: Table) -> u32
 }
 
 // How many marks count.
+#[tactic(auto, unfolding(crate::specs::Calls::count_of))]
 pub fn count(table: Table) -> Result<u32, Refusal>
     ensures { outcome_of result ≡ count_of table }
 {

@@ -50,6 +50,7 @@ fn outside(table: Table, lender: Wire, taker: Wire) -> bool
 }
 
 // Whether the lender may lend to the taker; no for numbers at or above the width.
+#[tactic(auto, unfolding(crate::specs::Calls::may_lend))]
 pub fn may(table: Table, lender: Wire, taker: Wire) -> Result<bool, Refusal>
     ensures { outcome_of result ≡ may_lend table lender.0 taker.0 }
 {
@@ -60,6 +61,7 @@ pub fn may(table: Table, lender: Wire, taker: Wire) -> Result<bool, Refusal>
 }
 
 // What becomes of an offer: it is taken, or refused.
+#[tactic(auto, unfolding(crate::specs::Calls::judged))]
 pub fn judge(table: Table, lender: Wire, taker: Wire) -> Result<(), Refusal>
     ensures { outcome_of result ≡ judged table lender.0 taker.0 }
 {

@@ -8,6 +8,7 @@ ghost use Rattle.table.specs.TableBytes.{set_at, table_of, table_bytes};
 use crate::tables::{Row, Table};
 
 // A row or a set of used wires, by its index after the width, of bytes that hold a whole table.
+#[tactic(auto, using(crate::proofs::RowBytes::row_number))]
 fn set_at(bytes: &[u8], index: usize) -> Row
     requires index_bound { index ≤ most_wires + 1 }
     requires table_length_in_bounds { table_length ≤ length bytes.now }
@@ -46,6 +47,7 @@ pub fn table_of(bytes: &[u8]) -> Table
     whole_table(bytes)
 }
 
+#[tactic(auto, using(crate::proofs::RowBytes::row_digits))]
 fn put_row(row: Row, out: &mut [u8], at: usize) -> usize
     ensures { Placed out.old at (bytes_of row_bytes row) out.new result }
 {

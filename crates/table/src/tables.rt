@@ -29,6 +29,7 @@ impl Table {
     pub const BYTES: usize = 1 + Table::ROW_BYTES * (Table::ROWS + 2);
 
     // No wires and no marks.
+    #[tactic(auto, unfolding(crate::specs::Marks::empty_table))]
     pub fn empty() -> Table
         ensures { result ≡ empty_table }
     {

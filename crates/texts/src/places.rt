@@ -18,6 +18,7 @@ fn is_awaited(cause: Cause, last: bool) -> bool
 
 // Puts what is printed of a place of `piece` into a buffer as `put_bytes` puts bytes. The piece is a part of an input, `place` is
 // the place in the input, and `last` says that no piece follows: else a record that is cut is not printed yet.
+#[tactic(auto, using(writing::proofs::Puts::placed_none))]
 pub fn put_at(out: &mut [u8], to: usize, piece: &[u8], at: usize, place: usize, last: bool) -> usize
     ensures { Placed out.old to (text_at place last (record_at piece.now at)) out.new result }
 {

@@ -1,7 +1,7 @@
 -- The records of a list that is handed back: whether there is room for them, and what is told. Assumes nothing.
 use Prim.Native.Nat.{ℕ, ◌+◌, ◌*◌, ◌%◌, ◌≤◌, ◌<◌}
 use mathlib.Core.Bool.{Bool, true, false}
-use mathlib.Core.Path.{◌≡◌, sym, ap, subst, ◌∙◌}
+use mathlib.Core.Path.{◌≡◌, sym, ap, ◌∙◌}
 use mathlib.Core.List.{List}
 use native.Mathlib.Omega.{arith}
 use lib.ListN.{length}
@@ -53,7 +53,3 @@ greedy_place t e = go (wrong_width t) e
     go : (b : Bool) {number place : ℕ} → pick b (refused 27 0) (done (handed_back (greedy_from t))) ≡ refused number place → place < places_end
     go true {number} {place} e = let z : 0 ≡ place = cc in omega arith
     go false e = absurd (not_refused (sym e))
-
--- the same outcome by another name
-pub relisted : {old : List ℕ} {o p : Outcome Rounds} {w : ℕ} {new : List ℕ} → o ≡ p → Listed old o w new → Listed old p w new
-relisted {old} {w = w} {new = new} e h = subst (λ (x : Outcome Rounds). Listed old x w new) e h

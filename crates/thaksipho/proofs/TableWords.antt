@@ -18,7 +18,7 @@ use Rattle.table.specs.Calls.{wrong_width, outside_width, may_lend, judged, offe
 use Rattle.table.specs.Starting.{table_at_start, started}
 use Rattle.table.specs.TableBytes.{table_bytes}
 use Rattle.table.specs.declared.tables.Table.{Table}
-use Rattle.thaksipho.specs.Words.{places_end, flag, Worded}
+use Rattle.thaksipho.specs.Words.{places_end, flag}
 use Rattle.thaksipho.specs.Tables.{table_written}
 use Rattle.table.proofs.SavedTables.{length-table_bytes}
 use Rattle.writing.proofs.Puts.{fitted-done, fitted-refused}
@@ -87,10 +87,6 @@ started_sound s = go (read_circuit s) refl
 -- a table that is handed back
 pub sound_place : {A : Type 0} {o : Outcome A} {number place : ℕ} → o ≡ refused number place → Sound o → place < places_end
 sound_place {A} {number = number} {place = place} e h = (subst (Sound {A = A}) e h).1
-
--- the same outcome by another name
-pub reworded : {old : List ℕ} (room : ℕ) {o p : Outcome Table} {w : ℕ} {new : List ℕ} → o ≡ p → Worded old (table_written room o) w new → Worded old (table_written room p) w new
-reworded {old} room {w = w} {new = new} e h = subst (λ (x : Outcome Table). Worded old (table_written room x) w new) e h
 
 -- where the call's own outcome is a refusal, so is what is written
 pub refused_written : (room : ℕ) {o : Outcome Table} {number place : ℕ} → o ≡ refused number place → table_written room o ≡ refused number place

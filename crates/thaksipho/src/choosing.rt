@@ -24,6 +24,7 @@ fn hand_list(rounds: Rounds, out: &mut [u8]) -> u64
 
 // Chooses pairs greedily and writes the list as 60 records. The value: trials * 256 + pairs.
 #[unsafe(no_mangle)]
+#[tactic(auto, using(choosers::proofs::HandedLists::greedy_sized))]
 pub extern "C" fn thaksipho_greedy(table: &[u8], out: &mut [u8]) -> u64
     ensures { Listed out.old (greedy_of (table_of table.now)) result out.new }
 {

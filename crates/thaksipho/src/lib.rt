@@ -17,6 +17,7 @@ use circuits::{read, rewrite};
 
 // Reads a static circuit. The value: instructions * 256 + wires.
 #[unsafe(no_mangle)]
+#[tactic(auto, using(crate::proofs::Fitting::told_fits, crate::proofs::Fitting::read_fits, crate::proofs::Fitting::refusal_tells))]
 pub extern "C" fn thaksipho_read(circuit: &[u8]) -> u64
     ensures { result ≡ word (circuit_value (summary (read_circuit circuit.now))) }
 {

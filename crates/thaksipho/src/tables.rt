@@ -35,6 +35,7 @@ pub extern "C" fn thaksipho_start(circuit: &[u8], out: &mut [u8]) -> u64
 
 // Whether the lender may lend to the taker. The value: 1 yes, 0 no.
 #[unsafe(no_mangle)]
+#[tactic(auto, using(crate::proofs::Fitting::refusal_tells, crate::proofs::TableWords::may_fits))]
 pub extern "C" fn thaksipho_may(table: &[u8], lender: u8, taker: u8) -> u64
     ensures { result ≡ word (flag (may_lend (table_of table.now) lender taker)) }
 {
@@ -56,6 +57,7 @@ pub extern "C" fn thaksipho_offer(table: &[u8], lender: u8, taker: u8, out: &mut
 }
 
 // A count as a word.
+#[tactic(auto, using(crate::proofs::Fitting::kept))]
 fn count_word(counted: Result<u32, Refusal>) -> u64
     requires { Small (outcome_of counted) }
     ensures { result ≡ word (outcome_of counted) }
@@ -68,6 +70,7 @@ fn count_word(counted: Result<u32, Refusal>) -> u64
 
 // How many marks count.
 #[unsafe(no_mangle)]
+#[tactic(auto, using(crate::proofs::Fitting::told_fits, crate::proofs::Fitting::fits_small, crate::proofs::TableWords::count_fits))]
 pub extern "C" fn thaksipho_count(table: &[u8]) -> u64
     ensures { result ≡ word (count_of (table_of table.now)) }
 {
@@ -76,6 +79,7 @@ pub extern "C" fn thaksipho_count(table: &[u8]) -> u64
 
 // How many marks are left after accepting a pair.
 #[unsafe(no_mangle)]
+#[tactic(auto, using(crate::proofs::Fitting::told_fits, crate::proofs::Fitting::fits_small, crate::proofs::TableWords::score_fits))]
 pub extern "C" fn thaksipho_score(table: &[u8], lender: u8, taker: u8) -> u64
     ensures { result ≡ word (score_of (table_of table.now) lender taker) }
 {

@@ -37,6 +37,7 @@ const MOST_DIGITS: usize = 20;
 
 // Puts a number in decimal into a buffer as `put_bytes` puts bytes. Its digits are found from the last one on. Not by `InlineText` of
 // `std`, which was tried and did not prove: by its contract the text may be cut even where it fits.
+#[tactic(auto, using(crate::proofs::Spelling::spelling_room))]
 pub fn put_number(out: &mut [u8], at: usize, n: usize) -> usize
     ensures { Placed out.old at (decimal n) out.new result }
 {

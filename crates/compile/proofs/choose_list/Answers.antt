@@ -8,12 +8,8 @@ use Rattle.writing.proofs.Puts.{placed_within}
 use Rattle.writing.proofs.Rows.{placed_written, written_front}
 use Rattle.pairs.specs.Listing.{deciding_list_bytes}
 use Rattle.choosers.proofs.Settling.{greedy_made}
-use Rattle.compile.specs.Running.{chosen_list}
 use Rattle.compile.proofs.Chosen.{started_right, list_chosen, chosen_short}
 use Rattle.compile.proofs.choose_list.Goals as goal
-
-pub returns-in_default : goal.returns-in_default
-returns-in_default c = (omega arith, ap chosen_list c.in_default.ensures.value)
 
 pub unwrap-rounds-requires : goal.unwrap-rounds-requires
 unwrap-rounds-requires c = let right = started_right _ _ c.in-Ok.ensures.value in

@@ -12,11 +12,6 @@ use Rattle.records.specs.Refusals.{number_of, outcome_of}
 use Rattle.compile.specs.Running.{wires_told, answer_line}
 use Rattle.compile.proofs.line_of.Goals as goal
 
-pub overflow_add-qubits : goal.overflow_add-qubits
-overflow_add-qubits c =
-    let few = subst (λ a. wires_told (outcome_of a) ≤ most_wires) c.in-Ok.is c.requires.answer_bound in
-    omega arith
-
 pub returns-in-Ok : goal.returns-in-Ok
 returns-in-Ok c =
     let put = c.put_compiled.ensures in

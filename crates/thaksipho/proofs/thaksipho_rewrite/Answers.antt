@@ -5,9 +5,6 @@ use Rattle.thaksipho.specs.Words.{word}
 use Rattle.thaksipho.proofs.Fitting.{told_fits, worded, rewrite_fits, kept}
 use Rattle.thaksipho.proofs.thaksipho_rewrite.Goals as goal
 
-pub returns-in-Ok : goal.returns-in-Ok
-returns-in-Ok c = worded c.rewrite.ensures (sym (ap (λ r. word (outcome_of r)) c.in-Ok.is))
-
 pub returns-in-Err : goal.returns-in-Err
 returns-in-Err c = let e = sym (ap outcome_of c.in-Err.is) ∙ c.rewrite.ensures.tells in
     worded c.rewrite.ensures

@@ -11,13 +11,6 @@ use Rattle.choosers.proofs.YesPairs.{yes_offered}
 use Rattle.choosers.proofs.GreedyRounds.{best_is}
 use Rattle.choosers.proofs.choosing.round.Goals as goal
 
-pub push-requires : goal.push-requires
-push-requires c = c.requires.length_lt_most_pairs
-
-pub returns-in_default : goal.returns-in_default
-unfolding best_pair
-returns-in_default c = ap (λ o. round_after c.args.rounds c.args.marks (map (λ (b : Tried). b.pair) o)) (sym (ap best_said c.in_default.is) ∙ c.try_pairs.ensures)
-
 pub unwrap-requires : goal.unwrap-requires
 unfolding best_pair
 unwrap-requires c = let t = c.args.rounds.table in

@@ -6,11 +6,8 @@ use Rattle.bits.specs.Bits.{bit, pack}
 use Rattle.table.specs.Limits.{most_wires}
 use Rattle.table.specs.Rule.{row_after, is_set, accepted_clean}
 use Rattle.table.proofs.CleanOffers.{own_row_gone}
-use Rattle.table.proofs.RowsBelow.{filling_starts, filling_more}
+use Rattle.table.proofs.RowsBelow.{filling_more}
 use Rattle.table.proofs.clean_offers.accept_clean.Goals as goal
-
-pub loop-wire-init : goal.loop-wire-init
-loop-wire-init c = filling_starts _ _
 
 pub loop-wire-preserved : goal.loop-wire-preserved
 loop-wire-preserved c = let given = c.row_of-given.result in

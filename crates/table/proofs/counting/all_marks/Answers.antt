@@ -8,11 +8,8 @@ use Rattle.bits.specs.Bits.{pack}
 use Rattle.table.specs.Limits.{most_wires}
 use Rattle.table.specs.Marks.{counts, rows_below}
 use Rattle.table.proofs.TableMarks.{row_counts}
-use Rattle.table.proofs.RowsBelow.{below_most, no_marks, filling_starts, filling_more, filling_ends}
+use Rattle.table.proofs.RowsBelow.{below_most, no_marks, filling_more, filling_ends}
 use Rattle.table.proofs.counting.all_marks.Goals as goal
-
-pub loop-lender-init : goal.loop-lender-init
-loop-lender-init c = filling_starts (λ lender. pack most_wires (counts c.args.table lender)) _
 
 pub loop-lender-preserved : goal.loop-lender-preserved
 loop-lender-preserved c = let t = c.args.table in

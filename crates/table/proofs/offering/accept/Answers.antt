@@ -2,6 +2,7 @@
 -- are 0. Assumes nothing.
 use mathlib.Core.Path.{◌≡◌, ap, ◌∙◌}
 use native.Mathlib.Omega.{arith}
+use borrow.Author.Rules.{rules}
 use lib.ListN.{get_or}
 use Rattle.bits.specs.Bits.{pack}
 use Rattle.table.specs.Limits.{most_wires}
@@ -11,18 +12,8 @@ use Rattle.table.specs.Changes.{changed}
 use Rattle.table.specs.declared.rows.Change.{Change}
 use Rattle.table.proofs.Held.{row_held}
 use Rattle.table.proofs.TableMarks.{row_changed}
-use Rattle.table.proofs.RowsBelow.{below_most, none_after, filling_starts, filling_more, filling_same, filling_ends}
+use Rattle.table.proofs.RowsBelow.{below_most, none_after, filling_same, filling_ends}
 use Rattle.table.proofs.offering.accept.Goals as goal
-
-pub loop-wire-init : goal.loop-wire-init
-loop-wire-init c = let change = c.change_of-change.result in
-    filling_starts (λ u. pack most_wires (changed change (get_or c.args.table.rows u 0) u)) _
-
-pub loop-wire-preserved : goal.loop-wire-preserved
-loop-wire-preserved c = let h = c.loop-wire in
-    let change = c.change_of-change.result in
-    let few = below_most c.args.table.width in
-    filling_more (λ u. pack most_wires (changed change (get_or c.args.table.rows u 0) u)) h.wire _ _ (omega arith) h.invariant c.row_after.ensures
 
 pub returns : goal.returns
 unfolding accepted_in
@@ -34,6 +25,6 @@ returns c = let h = c.loop-wire in
     let few = below_most t.width in
     let change = c.change_of-change.ensures in
     let rule = filling_same (λ u. pack most_wires (mark_after (counts t) lender taker u)) h.wire h.rows h.invariant
-    (λ u l. ap (λ (x : Change). pack most_wires (changed x (get_or t.rows u 0) u)) change ∙ row_changed t lender taker u (row_held t.rows c.well_formed.0.1.1.1.0 u) (omega arith)) in
+    (λ u l. ap (λ (x : Change). pack most_wires (changed x (get_or t.rows u 0) u)) change ∙ row_changed t lender taker u (search (rules, row_held)) (omega arith)) in
     let rows = filling_ends (λ u. pack most_wires (mark_after (counts t) lender taker u)) t.width h.rows (rw e at rule) (none_after t lender taker) in
     λ i. record { width = t.width; rows = rows i; lending = c.use_wire-lending.ensures i; taking = c.use_wire-taking.ensures i }

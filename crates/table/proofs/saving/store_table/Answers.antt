@@ -3,7 +3,7 @@ use Prim.Native.Nat.{ℕ, ◌+◌, ◌≤◌}
 use mathlib.Core.Path.{◌≡◌, refl, subst}
 use mathlib.Core.List.{List, [], ◌++◌}
 use native.Mathlib.Omega.{arith}
-use lib.ListN.{length, set, length-set}
+use lib.ListN.{length, set}
 use Rattle.writing.specs.Numbers.{bytes_of, bytes_of_all}
 use Rattle.writing.specs.Writing.{Wrote, Placed}
 use Rattle.writing.proofs.Remaining.{Remaining, remaining_start, remaining_store, remaining_call, remaining_placed, remaining_end}
@@ -27,12 +27,6 @@ all_written old out₁ out₂ out₃ at to₁ to₂ to₃ t count room rows lend
     (remaining_placed last lending
     (remaining_call rest rows
     (remaining_store (subst (λ (x : List ℕ). Remaining old at (table_bytes t) old at x) (table_parts t) start))))
-
-pub store_rows-lenders-requires : goal.store_rows-lenders-requires
-store_rows-lenders-requires c = omega (arith, length-set c.args.out.now c.args.at c.args.table.width)
-
-pub shape_of-out : goal.shape_of-out
-shape_of-out c = (all_written _ _ _ _ _ _ _ _ c.args.table (omega arith) c.requires c.store_rows-lenders.ensures c.put_row-takers.ensures c.put_row.ensures).same
 
 pub returns : goal.returns
 returns c = remaining_end refl (all_written _ _ _ _ _ _ _ _ c.args.table (omega arith) c.requires c.store_rows-lenders.ensures c.put_row-takers.ensures c.put_row.ensures)

@@ -3,14 +3,8 @@ use mathlib.Core.Path.{refl}
 use native.Mathlib.Omega.{arith}
 use lib.ListN.{get_or}
 use Rattle.table.specs.TableBytes.{set_at, table_of}
-use Rattle.table.proofs.RowsBelow.{filling_starts, filling_more, filling_all}
+use Rattle.table.proofs.RowsBelow.{filling_all}
 use Rattle.table.proofs.saving.whole_table.Goals as goal
-
-pub loop-index-init : goal.loop-index-init
-loop-index-init c = filling_starts (set_at c.args.bytes.now) _
-
-pub loop-index-preserved : goal.loop-index-preserved
-loop-index-preserved c = filling_more (set_at c.args.bytes.now) c.loop-index.index _ _ (omega arith) c.loop-index.invariant c.set_at.ensures
 
 pub returns : goal.returns
 unfolding table_of

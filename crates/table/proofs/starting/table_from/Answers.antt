@@ -1,22 +1,11 @@
 -- `table::starting::table_from` meets its contract. The loop's invariant: the rows so far are the table's. Assumes nothing.
-use mathlib.Core.Path.{ap, ◌∙◌}
 use native.Mathlib.Omega.{arith}
-use Prim.Native.Nat.{ℕ}
 use lib.ListN.{get_or}
 use Rattle.bits.specs.Bits.{pack}
 use Rattle.table.specs.Limits.{most_wires}
 use Rattle.table.specs.Starting.{start_row, start_from}
-use Rattle.table.proofs.RowsBelow.{filling_starts, filling_more, filling_all}
+use Rattle.table.proofs.RowsBelow.{filling_all}
 use Rattle.table.proofs.starting.table_from.Goals as goal
-
-pub loop-lender-init : goal.loop-lender-init
-loop-lender-init c = let a = c.args in filling_starts (λ j. pack most_wires (start_row a.width (get_or a.sets.rows j 0) j)) a.sets.rows
-
-pub loop-lender-preserved : goal.loop-lender-preserved
-loop-lender-preserved c = let a = c.args in
-    let h = c.loop-lender in
-    let row = ap (λ (x : ℕ). pack most_wires (start_row a.width x h.lender)) (h.invariant.rest h.lender (omega arith)) in
-    filling_more (λ j. pack most_wires (start_row a.width (get_or a.sets.rows j 0) j)) h.lender _ _ (omega arith) h.invariant (c.start_row.ensures ∙ row)
 
 pub returns : goal.returns
 unfolding start_from

@@ -6,9 +6,6 @@ use Rattle.thaksipho.proofs.Fitting.{told_fits, worded, kept}
 use Rattle.thaksipho.proofs.CompileWords.{bytes_told, compiled_settled, compile_fits}
 use Rattle.thaksipho.proofs.compiling.thaksipho_compile.Goals as goal
 
-pub returns-in-Ok : goal.returns-in-Ok
-returns-in-Ok c = worded (compiled_settled c.compile.ensures) (sym (ap (λ r. word (bytes_told (outcome_of r))) c.in-Ok.is))
-
 pub returns-in-Err : goal.returns-in-Err
 returns-in-Err c = let settled = compiled_settled c.compile.ensures in
     let e = sym (ap (λ r. bytes_told (outcome_of r)) c.in-Err.is) ∙ settled.tells in

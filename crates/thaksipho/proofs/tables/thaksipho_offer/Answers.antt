@@ -3,14 +3,8 @@ use mathlib.Core.Path.{sym, ap, ◌∙◌}
 use Rattle.table.specs.Calls.{offered}
 use Rattle.table.specs.declared.tables.Table.{Table}
 use Rattle.thaksipho.proofs.Fitting.{refusal_worded}
-use Rattle.thaksipho.proofs.TableWords.{reworded, refused_written, offered_sound, sound_place}
+use Rattle.thaksipho.proofs.TableWords.{refused_written, offered_sound, sound_place}
 use Rattle.thaksipho.proofs.tables.thaksipho_offer.Goals as goal
-
-pub returns-in-Ok : goal.returns-in-Ok
-returns-in-Ok c = let a = c.args in
-    reworded _
-    (c.in-Ok.ensures.value ∙ ap (λ (t : Table). offered t a.lender a.taker) c.table_of.ensures)
-    c.hand_back.ensures
 
 pub returns-in-Err : goal.returns-in-Err
 returns-in-Err c = let a = c.args in

@@ -1,11 +1,8 @@
 -- `thaksipho::tables::thaksipho_start` meets its contract: the circuit's refusal, or its table handed back. Assumes nothing.
 use mathlib.Core.Path.{sym}
 use Rattle.thaksipho.proofs.Fitting.{refusal_worded}
-use Rattle.thaksipho.proofs.TableWords.{reworded, refused_written, started_sound, sound_place}
+use Rattle.thaksipho.proofs.TableWords.{refused_written, started_sound, sound_place}
 use Rattle.thaksipho.proofs.tables.thaksipho_start.Goals as goal
-
-pub returns-in-Ok : goal.returns-in-Ok
-returns-in-Ok c = reworded _ c.in-Ok.ensures.value c.hand_back.ensures
 
 pub returns-in-Err : goal.returns-in-Err
 returns-in-Err c = let e = sym c.in-Err.ensures.value in
