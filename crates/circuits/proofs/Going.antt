@@ -3,13 +3,8 @@ use Prim.Native.Nat.{ℕ}
 use mathlib.Core.Path.{◌≡◌, sym, ap, ◌∙◌}
 use Rattle.std.specs.Prelude.{Option, None, Some, Result, Ok, Err}
 use Rattle.std.specs.Result.{result_unwrap_or}
-use Rattle.basics.specs.Outcome.{Outcome, done, refused}
-use Rattle.records.specs.Refusals.{number_of}
+use Rattle.basics.specs.Outcome.{Outcome}
 use Rattle.records.specs.declared.refusals.Refusal.{Refusal}
-use Rattle.records.specs.declared.instructions.Instruction.{Instruction}
-use Rattle.circuits.specs.Stepping.{Next, step, end, found_of}
-use Rattle.circuits.specs.Sketching.{Sight, sketched, over, glimpsed}
-use Rattle.circuits.specs.declared.sketching.Sketch.{Sketch}
 
 -- an answer of the code in which a fault counts as the end, by what it says
 module _ {X Y : Type 0} (says : Result (Option (X × ℕ)) Refusal → Outcome Y) {o : Outcome Y} where

@@ -1,7 +1,7 @@
 -- Records that are not what is asked for: no static width is no header, and no instruction is no step. Assumes nothing.
 use Prim.Native.Nat.{ℕ}
 use mathlib.Core.Path.{◌≡◌, refl}
-use Rattle.basics.specs.Outcome.{Outcome, done, refused}
+use Rattle.basics.specs.Outcome.{done, refused}
 use Rattle.records.specs.Records.{stands}
 use Rattle.records.specs.declared.instructions.Instruction.{Instruction}
 use Rattle.records.specs.declared.instructions.Record.{Record}

@@ -1,9 +1,8 @@
 -- `circuits::reading::close` meets its contract: its test is the definition's. Assumes nothing.
-use mathlib.Core.Path.{sym, ap, ◌∙◌}
+use mathlib.Core.Path.{sym}
 use native.Mathlib.Nat.{add-zero}
 use native.Mathlib.Omega.{arith}
 use borrow.Author.Tests.{lt-ltb, le-ltb}
-use Rattle.std.specs.Prelude.{unwrap_or}
 use Rattle.circuits.specs.Reading.{ending}
 use Rattle.circuits.proofs.reading.close.Goals as goal
 

@@ -1,6 +1,5 @@
 -- `circuits::reading::read_header` meets its contract: the first byte's kind, and then what the record is. Assumes nothing.
 use mathlib.Core.Path.{sym, ◌∙◌}
-use borrow.Author.Tests.{eq-eqb, ne_eqb}
 use Rattle.std.proofs.lemmas.Result.{err_from_is_err_and}
 use Rattle.circuits.specs.Reading.{header_of}
 use Rattle.circuits.proofs.Others.{not_header}

@@ -1,6 +1,5 @@
 -- `circuits::rewriting::rewrite` meets its contract: the reader's refusal, 31, or the header and then the steps. Assumes nothing.
 use native.Mathlib.Omega.{arith}
-use mathlib.Core.Path.{sym, ap, ◌∙◌}
 use Rattle.std.proofs.lemmas.Result.{err_from_is_err_and}
 use Rattle.writing.proofs.Puts.{settled_refused, settled_done}
 use Rattle.circuits.proofs.Rewrites.{accepted, turned_away, not_read, steps_stand, no_room, has_room, steps_fit, wrote_circuit}
