@@ -6,7 +6,7 @@ use Rattle.std.specs.Prelude.{Option, Some, None, Result, Ok, Err, IsOk}
 use Rattle.basics.proofs.Outcomes.{not_refused}
 use Rattle.basics.specs.Choice.{pick}
 use Rattle.std.specs.Result.{result_unwrap_or}
-use Rattle.basics.specs.Outcome.{Outcome, done, refused, beside}
+use Rattle.basics.specs.Outcome.{Outcome, done, beside}
 use Rattle.records.specs.Refusals.{number_of, refusal_of, outcome_of}
 use Rattle.records.specs.Records.{answered}
 use Rattle.records.specs.declared.refusals.Cause.{Cause}

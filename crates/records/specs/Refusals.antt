@@ -1,6 +1,6 @@
 -- Document 01's table of refusals: the number of each cause. And what an answer of the code says: it is done, or refused with the
 -- cause's number and the place.
-use Rattle.std.specs.Prelude.{ℕ, Option, Some, None, Result, Ok, Err}
+use Rattle.std.specs.Prelude.{ℕ, Result, Ok, Err}
 use Rattle.basics.specs.Outcome.{Outcome, done, refused}
 use Rattle.records.specs.declared.refusals.Cause.{Cause}
 use Rattle.records.specs.declared.refusals.Cause.TheVariants as cause

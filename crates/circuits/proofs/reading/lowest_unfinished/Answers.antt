@@ -1,13 +1,9 @@
 -- `circuits::reading::lowest_unfinished` meets its contract. The loop's invariant: the search from here on finds what the whole
 -- search does. Assumes nothing.
-use native.Mathlib.Nat.{sub-zero}
 use mathlib.Core.Path.{◌≡◌, sym, ◌∙◌}
 use native.Mathlib.Omega.{arith}
 use Rattle.circuits.proofs.Turns.{unfinished_on, unfinished_here, unfinished_none}
 use Rattle.circuits.proofs.reading.lowest_unfinished.Goals as goal
-
-pub loop-line-init : goal.loop-line-init
-loop-line-init c = rw sub-zero
 
 pub returns-then-state_at-ne-DONE : goal.returns-then-state_at-ne-DONE
 returns-then-state_at-ne-DONE c = record {

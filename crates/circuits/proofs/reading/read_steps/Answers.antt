@@ -9,10 +9,6 @@ use Rattle.circuits.specs.Reading.{counted}
 use Rattle.circuits.proofs.Takes.{turn, counts_on}
 use Rattle.circuits.proofs.reading.read_steps.Goals as goal
 
-pub loop-next-init : goal.loop-next-init
-loop-next-init c = let start = c.fresh-fresh.ensures in
-    (omega arith, rw start, rw start, rw start)
-
 pub returns-in_err-next : goal.returns-in_err-next
 returns-in_err-next c = let p = err_from_is_err_and c.from_residual.result c.from_residual.ensures.1 in
     rw (p.1, p.2)

@@ -2,18 +2,12 @@
 -- what is still to be written. Assumes nothing.
 use mathlib.Core.Path.{sym, ◌∙◌}
 use native.Mathlib.Omega.{arith}
-use Rattle.writing.proofs.Remaining.{remaining_start}
 use Rattle.circuits.specs.Stepping.{found_of}
-use Rattle.circuits.specs.Reading.{read_circuit}
-use Rattle.circuits.specs.Rewriting.{steps_of}
 use Rattle.circuits.proofs.Turns.{some_left}
 use Rattle.circuits.proofs.Walks.{steps_faultless}
 use Rattle.circuits.proofs.Going.{goes_on, goes_out}
 use Rattle.circuits.proofs.Rewrites.{going_end, going_on}
 use Rattle.circuits.proofs.rewriting.write_steps.Goals as goal
-
-pub loop-instruction-init : goal.loop-instruction-init
-loop-instruction-init c = (steps_of (read_circuit c.args.circuit.now), c.requires.steps, remaining_start c.requires.circuit_in_bounds)
 
 pub overflow_sub-left : goal.overflow_sub-left
 overflow_sub-left c = some_left _ _ _ (goes_on found_of _ c.step_at.ensures (sym c.unwrap_or.ensures ∙ c.in-Some.is))

@@ -10,10 +10,6 @@ pub returns-in-DynamicWidth : goal.returns-in-DynamicWidth
 unfolding encoded
 returns-in-DynamicWidth c = rw c.in-DynamicWidth.is
 
-pub returns-in-Step : goal.returns-in-Step
-unfolding encoded
-returns-in-Step c = rw c.in-Step.is c.encode_instruction.ensures
-
 pub returns-in-Reuse : goal.returns-in-Reuse
 unfolding encoded
 returns-in-Reuse c = rw c.in-Reuse.is
