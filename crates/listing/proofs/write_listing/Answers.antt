@@ -1,11 +1,8 @@
 -- `listing::write_listing` meets its contract: the listing of the circuit's table, or the refusal's line. Assumes nothing.
 use mathlib.Core.Path.{sym}
 use native.Mathlib.Omega.{arith}
-use Rattle.listing.proofs.Choices.{started_right, listing_printed, refusal_printed}
+use Rattle.listing.proofs.Choices.{listing_printed, refusal_printed}
 use Rattle.listing.proofs.write_listing.Goals as goal
-
-pub write_choice-requires-clause-table_value : goal.write_choice-requires-clause-table_value
-write_choice-requires-clause-table_value c = started_right _ (sym c.in-Ok.ensures.value)
 
 pub returns-in-Ok : goal.returns-in-Ok
 returns-in-Ok c = listing_printed _ (sym c.in-Ok.ensures.value) c.write_choice.ensures

@@ -1,19 +1,9 @@
 -- `writing::copy` meets its contract. The loop's invariant: what is left of the bytes is what is left to be written.
 -- Assumes nothing.
-use mathlib.Core.Path.{ap}
 use native.Mathlib.Omega.{arith}
-use lib.ListN.{length, drop_of_length-le}
-use Rattle.writing.proofs.Remaining.{remaining_start, remaining_fits, remaining_store, remaining_end, drop_next}
+use lib.ListN.{drop_of_length-le}
+use Rattle.writing.proofs.Remaining.{remaining_store, remaining_end, drop_next}
 use Rattle.writing.proofs.copy.Goals as goal
-
-pub loop-byte-init : goal.loop-byte-init
-loop-byte-init c = remaining_start c.requires
-
-pub bounds-out-to : goal.bounds-out-to
-bounds-out-to c = omega (arith, remaining_fits c.loop-byte.invariant, ap length (drop_next c.args.bytes.now c.loop-byte.byte-index (omega arith)))
-
-pub overflow_add-to : goal.overflow_add-to
-overflow_add-to c = omega (arith, remaining_fits c.loop-byte.invariant, ap length (drop_next c.args.bytes.now c.loop-byte.byte-index (omega arith)))
 
 pub loop-byte-preserved : goal.loop-byte-preserved
 loop-byte-preserved c = remaining_store (rw (drop_next c.args.bytes.now c.loop-byte.byte-index (omega arith)) at c.loop-byte.invariant)

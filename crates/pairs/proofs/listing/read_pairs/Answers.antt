@@ -21,9 +21,6 @@ returns-in_err-lender c = let t = c.args.table in
     rw (p.1, p.2) (ap paired (going_refused _ _ _ _ _ _ c.loop-lender.invariant (sym c.in_err-lender.ensures))) in
     record { value = told; kept = unwraps r (unpaired t) told }
 
-pub take-requires : goal.take-requires
-take-requires c = c.loop-lender.invariant.clean
-
 pub returns-in-Err : goal.returns-in-Err
 returns-in-Err c = let t = c.args.table in
     let r = Err c.at.result in
@@ -32,10 +29,6 @@ returns-in-Err c = let t = c.args.table in
     (ap paired (going_untaken _ _ _ _ _ _ c.loop-lender.invariant (sym c.in_ok-lender.ensures ∙ ap (λ o. found_pair (Ok o)) c.in-Some.is)
     (sym c.in-Err.ensures))) in
     record { value = told; kept = unwraps r (unpaired t) told }
-
-pub overflow_add-index : goal.overflow_add-index
-overflow_add-index c = let back = pair_back _ _ _ (sym c.in_ok-lender.ensures ∙ ap (λ o. found_pair (Ok o)) c.in-Some.is) in
-    omega (arith, c.loop-lender.invariant.onward, c.loop-lender.invariant.inside, back.past)
 
 pub loop-lender-smaller : goal.loop-lender-smaller
 loop-lender-smaller c = let back = pair_back _ _ _ (sym c.in_ok-lender.ensures ∙ ap (λ o. found_pair (Ok o)) c.in-Some.is) in
