@@ -2,12 +2,8 @@
 use mathlib.Core.Path.{sym, ap, ◌∙◌}
 use Rattle.choosers.specs.Results.{greedy_of}
 use Rattle.thaksipho.specs.Lists.{list_value, list_written}
-use Rattle.choosers.proofs.HandedLists.{greedy_sized}
 use Rattle.thaksipho.proofs.ListWords.{listed_refused, greedy_place}
 use Rattle.thaksipho.proofs.choosing.thaksipho_greedy.Goals as goal
-
-pub hand_list-requires : goal.hand_list-requires
-hand_list-requires c = greedy_sized _ _ (sym c.in-Ok.ensures.value)
 
 pub returns-in-Err : goal.returns-in-Err
 returns-in-Err c = let e = sym (c.in-Err.ensures.value ∙ ap greedy_of c.table_of.ensures) in
