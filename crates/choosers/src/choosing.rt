@@ -33,7 +33,8 @@ fn better_of(best: Option<Tried>, new: Tried) -> Option<Tried>
     }
 }
 
-// How many marks the rows of the other lenders keep once a lender with these marks lends to the taker.
+// How many marks the rows of the other lenders keep once a lender with these marks lends to the taker. The rows that are left are stored
+// nowhere, so `count` cannot be asked.
 #[tactic(auto, unfolding(bits::specs::Bits::total))]
 fn marks_left(rows: &[Row; Table::ROWS], width: u8, given: Row, taker: Wire) -> u32
     requires rows_len { length rows.now ≡ most_wires }

@@ -16,6 +16,7 @@ pub struct Fault {
     pub operand: u8,
 }
 
+// It makes the answer, an `Err` with both values, so no `From` would be plainer.
 fn at_fault(cause: Cause, operand: u8) -> Result<(), Fault>
     ensures { verdict_of result ≡ fault (number_of cause) operand }
 {

@@ -56,7 +56,7 @@ pub extern "C" fn thaksipho_offer(table: &[u8], lender: u8, taker: u8, out: &mut
     }
 }
 
-// A count as a word.
+// A count as a word, or the refusal as one: the answer that C is given.
 #[tactic(auto, using(crate::proofs::Fitting::kept))]
 fn count_word(counted: Result<u32, Refusal>) -> u64
     requires { Small (outcome_of counted) }
