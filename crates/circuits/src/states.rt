@@ -43,7 +43,7 @@ pub(crate) fn state_at(states: &[u8], number: u8) -> u8
         .unwrap_or(States::FRESH)
 }
 
-// Changes one state; past the last nothing. Not by `get_mut`: its contract does not say what the slice holds after the write.
+// Changes one state; past the last nothing.
 pub(crate) fn set_state(states: &mut [u8], number: u8, state: u8)
     ensures { states.new ≡ set states.old number state }
 {

@@ -32,7 +32,7 @@ fn set_of(rows: &[Row], wire: Wire) -> Row
     rows.get(wire.0 as usize).copied().unwrap_or(0)
 }
 
-// Changes one wire's set. Not by `get_mut`: its contract does not say what the slice holds after the write.
+// Changes one wire's set.
 fn change_set(rows: &mut [Row], wire: Wire, row: Row)
     ensures { rows.new ≡ set rows.old wire.0 row }
 {
