@@ -10,6 +10,8 @@ use Rattle.basics.specs.Choice.{pick}
 use Rattle.basics.specs.Outcome.{Outcome, done, refused}
 use Rattle.basics.proofs.Outcomes.{not_refused}
 use Rattle.records.specs.Kinds.{shape_of}
+use Rattle.records.specs.declared.kinds.Form.{Form}
+use Rattle.records.specs.declared.kinds.Form.TheVariants as form
 use Rattle.records.specs.declared.kinds.Outline.{Outline}
 use Rattle.records.specs.declared.instructions.Instruction.{Instruction}
 use Rattle.records.specs.declared.instructions.Instruction.TheVariants.{Reset, Measurement, Gate, AngledGate, TwoLineGate, AngledTwoLineGate}
@@ -18,6 +20,18 @@ use Rattle.circuits.specs.Stepping.{Next, step, end}
 use Rattle.circuits.specs.Sketching.{sketch_of, sketched, over, in_sketch, operands_of, judge_sketch, advance_sketch}
 use Rattle.circuits.specs.declared.sketching.Sketch.{Sketch}
 use Rattle.circuits.specs.declared.states.States.{States}
+
+-- every form has an operand
+pub some_operand : (f : Form) → 1 ≤ operands_of f
+some_operand form.StaticWidth = lit≤ tt
+some_operand form.DynamicWidth = lit≤ tt
+some_operand form.Reset = lit≤ tt
+some_operand form.Measurement = lit≤ tt
+some_operand form.Gate = lit≤ tt
+some_operand form.AngledGate = lit≤ tt
+some_operand form.TwoLineGate = lit≤ tt
+some_operand form.AngledTwoLineGate = lit≤ tt
+some_operand form.Reuse = lit≤ tt
 
 abbrev Within : Option Outline → Type 0
 Within None = Unit {0}

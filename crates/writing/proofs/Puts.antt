@@ -1,12 +1,12 @@
 -- Laws of `put`: one after the other, a single store, and the whole from the start. Assumes nothing.
 use mathlib.Core.Bool.{Bool, true, false}
 use mathlib.Core.Path.{◌≡◌, refl, sym, ap, subst, ◌∙◌}
-use mathlib.Core.List.{List, [], ◌∷◌, ◌++◌, append_assoc}
+use mathlib.Core.List.{List, [], ◌∷◌, ◌++◌, append_assoc, append-nil}
 use mathlib.Core.Logic.{⊎_elim}
 use Prim.Native.Nat.{ℕ, ◌+◌, ◌≤◌, ◌<◌}
 use native.Mathlib.Omega.{arith}
 use native.Mathlib.Numerals.{add-one}
-use lib.ListN.{length, take, drop, set, length-append, length-take, length-drop, take-append-drop}
+use lib.ListN.{length, take, drop, set, length-append, length-take, length-drop, take-append-drop, drop_of_length-le}
 use lib.Seq.{set_split, take_at, drop_at, drop-drop, length-take-le}
 use borrow.Author.Tests.{le-leb, lt-leb, le-ltb, lt-ltb, leb-true}
 use Rattle.basics.specs.Choice.{pick}
@@ -64,6 +64,10 @@ put_store out at x rest l =
 pub put_start : (old xs : List ℕ) → put old 0 xs ≡ xs ++ drop (length xs) old
 unfolding put
 put_start old xs = let e : 0 + length xs ≡ length xs = omega arith in rw e refl
+
+-- a buffer that is written whole
+pub put_whole : (old xs : List ℕ) → length old ≡ length xs → put old 0 xs ≡ xs
+put_whole old xs e = put_start old xs ∙ ap (λ (z : List ℕ). xs ++ z) (drop_of_length-le old {i = length xs} (omega arith)) ∙ append-nil xs
 
 -- one written after the other is both written
 pub wrote_on : {old : List ℕ} {at : ℕ} {xs mid : List ℕ} {seam : ℕ} {ys new : List ℕ} {to : ℕ} → at ≤ length old → Wrote old at xs mid seam
@@ -130,6 +134,9 @@ module _ {old : List ℕ} {at : ℕ} {xs new : List ℕ} {to : ℕ} (p : Placed 
       go : (b : Bool) → fits old at xs ≡ b → pick b (at + length xs) at ≤ length old
       go true e = leb-true (at + length xs) (length old) e
       go false e = l
+
+  pub placed_front : at ≤ length old → to ≡ length (take to new)
+  placed_front l = sym (length-take-le to new (placed_within l))
 
 -- nothing is always placed
 pub placed_none : {old : List ℕ} {at : ℕ} → Placed old at [] old at

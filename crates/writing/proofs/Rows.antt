@@ -53,3 +53,6 @@ module _ {old : List ℕ} {most : ℕ} {xs new : List ℕ} {to : ℕ} (w : Writt
   pub written_front : take to new ≡ xs
   written_front =
       ap (take to) (w.wrote.holds ∙ put_start old xs) ∙ take_at xs (drop (length xs) old) to (omega (arith, w.wrote.end))
+
+  pub written_front_length : to ≡ length (take to new)
+  written_front_length = omega (arith, w.wrote.end, ap length written_front)
