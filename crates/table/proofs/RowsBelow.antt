@@ -1,6 +1,6 @@
--- Past the rows of the wires below the width no mark counts, so a pass over the rows ends there, and rows that were
+-- Past the rows of the wires below the width no mark counts, so a pass over the rows ends there: a sum is whole, and rows that were
 -- 0 stay so. Assumes nothing.
-use mathlib.Core.Path.{◌≡◌, refl, ◌∙◌}
+use mathlib.Core.Path.{◌≡◌, refl, sym, ap, ◌∙◌}
 use mathlib.Core.Bool.{Bool, true, false}
 use mathlib.Core.List.{List}
 use Prim.Native.Nat.{ℕ, ◌+◌, ◌≤◌, ◌<◌}
@@ -12,11 +12,12 @@ use lib.Dec.{ltb}
 use lib.ListN.{length, get_or, set, replicate, length-set, length-replicate, get_or-replicate, get_or-eq_default}
 use lib.Seq.{get_or-set_other}
 use Rattle.basics.specs.Choice.{pick}
-use Rattle.bits.specs.Bits.{pack, each}
+use Rattle.bits.specs.Bits.{digit, total, tally, pack, each}
 use Rattle.bits.proofs.Packing.{nothing_packed}
 use Rattle.bits.proofs.Lists.{filled, each_eq}
+use Rattle.bits.proofs.Sums.{total_none, total_cut}
 use Rattle.table.specs.Limits.{most_wires}
-use Rattle.table.specs.Marks.{counts, rows_below}
+use Rattle.table.specs.Marks.{counts, marks_of, rows_below}
 use Rattle.table.specs.Rule.{mark_after}
 use Rattle.table.specs.declared.tables.Table.{Table}
 use Rattle.table.proofs.Updates.{lender_far, stays_no}
@@ -37,7 +38,19 @@ module _ (w : ℕ) where
       go false h l = absurd (omega arith)
 
 module _ (t : Table) where
-  -- the rows past the width pack nothing, now or after an offer
+  -- the sum of the rows below the width is that of all rows
+  pub marks_below : total (rows_below t.width) (λ lender. tally most_wires (counts t lender)) ≡ marks_of t
+  unfolding marks_of
+  marks_below = go (ltb t.width most_wires) refl
+    where
+      none : (u : ℕ) → t.width ≤ u → tally most_wires (counts t u) ≡ 0
+      none u h = total_none most_wires _ (λ v. ap digit (lender_far t u v (le-ltb u t.width h)))
+
+      go : (b : Bool) → ltb t.width most_wires ≡ b → total (pick b t.width most_wires) (λ lender. tally most_wires (counts t lender)) ≡ marks_of t
+      go true e = sym (total_cut t.width most_wires _ (omega (arith, ltb-true t.width most_wires e)) none)
+      go false e = refl
+
+  -- and the rows past it pack nothing, now or after an offer
   pub no_marks : (u : ℕ) → t.width ≤ u → 0 ≡ pack most_wires (counts t u)
   no_marks u h = nothing_packed most_wires (λ v. lender_far t u v (le-ltb u t.width h))
 

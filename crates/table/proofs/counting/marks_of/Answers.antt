@@ -1,34 +1,38 @@
--- `table::counting::marks_of` meets its contract. The loop's invariant: the marks of the rows so far are counted. Assumes nothing.
-use mathlib.Core.Path.{◌≡◌, refl, ap, ◌∙◌}
-use mathlib.Core.List.{List}
-use Prim.Native.Nat.{ℕ}
+-- `table::counting::marks_of` meets its contract: a row below the width is counted by what it packs, and those past it count nothing.
+-- Assumes nothing.
+use Prim.Native.Nat.{◌<◌, ◌^◌}
+use mathlib.Core.Path.{◌≡◌, refl, ◌∙◌}
 use native.Mathlib.Omega.{arith}
 use borrow.Author.Rules.{rules}
 use lib.Count.{ones-le}
 use lib.ListN.{get_or}
-use Rattle.bits.specs.Bits.{total, pack}
-use Rattle.bits.proofs.Lists.{get_or-each}
+use Rattle.bits.specs.Bits.{total}
 use Rattle.bits.proofs.Sums.{tallies_more, tallies_le}
 use Rattle.table.specs.Limits.{most_wires}
-use Rattle.table.specs.Marks.{counts, marks_of}
+use Rattle.table.specs.Marks.{counts, rows_below}
+use Rattle.table.proofs.TableMarks.{row_counts}
+use Rattle.table.proofs.RowsBelow.{below_most, marks_below}
 use Rattle.table.proofs.counting.marks_of.Goals as goal
 
-pub loop-row-init : goal.loop-row-init
+pub loop-lender-init : goal.loop-lender-init
 unfolding total
-loop-row-init c = refl
+loop-lender-init c = refl
 
 pub overflow_add-n : goal.overflow_add-n
-overflow_add-n c = let h = c.loop-row in
-    omega (arith, tallies_le most_wires (counts c.args.table) _ _ h.invariant, ones-le most_wires (get_or c.all_marks-rows.result h.row-index 0) (search rules))
+overflow_add-n c = let h = c.loop-lender in
+    let few = below_most c.args.table.width in
+    omega (arith, tallies_le most_wires (counts c.args.table) _ _ h.invariant, ones-le most_wires c.counting.result (search rules))
 
-pub loop-row-preserved : goal.loop-row-preserved
-loop-row-preserved c = let t = c.args.table in
-    let h = c.loop-row in
-    let row = ap (λ (rows : List ℕ). get_or rows h.row-index 0) c.all_marks-rows.ensures
-    ∙ get_or-each most_wires (λ lender. pack most_wires (counts t lender)) h.row-index c.loop-row-test.true in
+pub loop-lender-preserved : goal.loop-lender-preserved
+loop-lender-preserved c = let t = c.args.table in
+    let few = below_most t.width in
+    let h = c.loop-lender in
+    let fits : get_or t.rows h.lender 0 < 2 ^ most_wires = omega arith in
+    let row = c.counting.ensures ∙ row_counts t h.lender fits (record { is = c.unused-lenders.ensures }) (record { is = c.unused-takers.ensures }) (omega arith) in
     tallies_more most_wires (counts t) _ _ _ h.invariant (record { is = row })
 
 pub returns : goal.returns
-unfolding marks_of
-returns c = let all : c.loop-row.row-index ≡ most_wires = omega (arith, c.loop-row.auto.row-index-end) in
-    rw all at c.loop-row.invariant
+returns c = let t = c.args.table in
+    let h = c.loop-lender in
+    let e : h.lender ≡ rows_below t.width = omega (arith, c.rows_below-end.ensures) in
+    rw e at h.invariant ∙ marks_below t

@@ -5,5 +5,5 @@ use Rattle.table.specs.Limits.{most_wires}
 use Rattle.table.specs.Marks.{counts}
 use Rattle.table.proofs.counting.marks_of.Given as goal
 
-abbrev pub invariant-loop-row : goal.invariant-loop-row
-invariant-loop-row l = l.n ≡ total l.row-index (λ lender. tally most_wires (counts l.fn.table lender))
+abbrev pub invariant-loop-lender : goal.invariant-loop-lender
+invariant-loop-lender l = l.n ≡ total l.lender (λ lender. tally most_wires (counts l.table lender))
