@@ -4,7 +4,7 @@ ghost use Rattle.table.specs.TableBytes.{table_of};
 ghost use Rattle.choosers.specs.Results.{Sized, greedy_of};
 ghost use Rattle.thaksipho.specs.Lists.{Listed};
 
-use crate::words::refusal_word;
+use crate::words::word_of;
 use choosers::Rounds;
 use records::Cause;
 
@@ -16,7 +16,7 @@ fn hand_list(rounds: Rounds, out: &mut [u8]) -> u64
     let list = rounds.list;
     let count = list.length;
     if out.len() < count * lists::PAIR {
-        return refusal_word(Cause::NoRoom.at(count * lists::PAIR));
+        return word_of(Cause::NoRoom.at(count * lists::PAIR));
     }
     lists::put_list(out, 0, list);
     rounds.trials as u64 * 256 + count as u64
@@ -30,6 +30,6 @@ pub extern "C" fn thaksipho_greedy(table: &[u8], out: &mut [u8]) -> u64
 {
     match choosers::greedy(table::table_of(table)) {
         Ok(rounds) => hand_list(rounds, out),
-        Err(r) => refusal_word(r),
+        Err(r) => word_of(r),
     }
 }

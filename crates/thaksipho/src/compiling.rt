@@ -3,7 +3,7 @@ ghost use Rattle.std.specs.Prelude.{length};
 ghost use Rattle.writer.specs.Compiling.{compiled, bytes_of};
 ghost use Rattle.thaksipho.specs.Words.{Worded};
 
-use crate::words::refusal_word;
+use crate::words::word_of;
 use writer::compile;
 
 // Writes the dynamic circuit of a static circuit and a pair list. The value: how many bytes were written.
@@ -13,6 +13,6 @@ pub extern "C" fn thaksipho_compile(circuit: &[u8], pairs: &[u8], out: &mut [u8]
 {
     match compile(circuit, pairs, out) {
         Ok(counts) => counts.bytes as u64,
-        Err(r) => refusal_word(r),
+        Err(r) => word_of(r),
     }
 }

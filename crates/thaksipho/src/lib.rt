@@ -12,7 +12,7 @@ ghost use Rattle.circuits.specs.Reading.{summary, read_circuit};
 ghost use Rattle.circuits.specs.Rewriting.{rewritten};
 ghost use Rattle.thaksipho.specs.Words.{word, circuit_value, Worded};
 
-use crate::words::refusal_word;
+use crate::words::word_of;
 use circuits::{read, rewrite};
 
 // Reads a static circuit. The value: instructions * 256 + wires.
@@ -23,7 +23,7 @@ pub extern "C" fn thaksipho_read(circuit: &[u8]) -> u64
 {
     match read(circuit) {
         Ok(c) => c.instructions as u64 * 256 + c.width as u64,
-        Err(r) => refusal_word(r),
+        Err(r) => word_of(r),
     }
 }
 
@@ -34,6 +34,6 @@ pub extern "C" fn thaksipho_rewrite(circuit: &[u8], out: &mut [u8]) -> u64
 {
     match rewrite(circuit, out) {
         Ok(n) => n as u64,
-        Err(r) => refusal_word(r),
+        Err(r) => word_of(r),
     }
 }

@@ -8,7 +8,7 @@ ghost use Rattle.table.specs.Starting.{started};
 ghost use Rattle.thaksipho.specs.Words.{word, flag, Worded};
 ghost use Rattle.thaksipho.specs.Tables.{table_written, Small};
 
-use crate::words::refusal_word;
+use crate::words::word_of;
 use records::{Cause, Refusal, Wire};
 use table::Table;
 
@@ -17,7 +17,7 @@ fn hand_back(table: Table, out: &mut [u8]) -> u64
     ensures { Worded out.old (table_written (length out.old) (done table)) result out.new }
 {
     if out.len() < Table::BYTES {
-        return refusal_word(Cause::NoRoom.at(Table::BYTES));
+        return word_of(Cause::NoRoom.at(Table::BYTES));
     }
     table::write_table(table, out, 0) as u64
 }
@@ -29,7 +29,7 @@ pub extern "C" fn thaksipho_start(circuit: &[u8], out: &mut [u8]) -> u64
 {
     match table::start(circuit) {
         Ok(table) => hand_back(table, out),
-        Err(r) => refusal_word(r),
+        Err(r) => word_of(r),
     }
 }
 
@@ -41,7 +41,7 @@ pub extern "C" fn thaksipho_may(table: &[u8], lender: u8, taker: u8) -> u64
 {
     match table::may(table::table_of(table), Wire(lender), Wire(taker)) {
         Ok(yes) => yes as u64,
-        Err(r) => refusal_word(r),
+        Err(r) => word_of(r),
     }
 }
 
@@ -52,7 +52,7 @@ pub extern "C" fn thaksipho_offer(table: &[u8], lender: u8, taker: u8, out: &mut
 {
     match table::offer(table::table_of(table), Wire(lender), Wire(taker)) {
         Ok(after) => hand_back(after, out),
-        Err(r) => refusal_word(r),
+        Err(r) => word_of(r),
     }
 }
 
@@ -64,7 +64,7 @@ fn count_word(counted: Result<u32, Refusal>) -> u64
 {
     match counted {
         Ok(n) => n as u64,
-        Err(r) => refusal_word(r),
+        Err(r) => word_of(r),
     }
 }
 

@@ -8,4 +8,4 @@ use Rattle.thaksipho.proofs.thaksipho_rewrite.Goals as goal
 pub returns-in-Err : goal.returns-in-Err
 returns-in-Err c = let e = sym (ap outcome_of c.in-Err.is) ∙ c.rewrite.ensures.tells in
     worded c.rewrite.ensures
-    (c.refusal_word.ensures ∙ kept _ _ (told_fits e (rewrite_fits _ _)).1 ∙ sym (ap (λ r. word (outcome_of r)) c.in-Err.is))
+    (c.word_of.ensures ∙ kept _ _ (told_fits e (rewrite_fits _ _)).1 ∙ sym (ap (λ r. word (outcome_of r)) c.in-Err.is))

@@ -11,7 +11,7 @@ use Rattle.thaksipho.proofs.choosing.hand_list.Goals as goal
 pub returns-then-out-count : goal.returns-then-out-count
 returns-then-out-count c = let r = c.args.rounds in
     let cut = list_cut r.list c.requires _ c.if-out-count.true in
-    listed_refused (rw c.at.ensures at c.refusal_word.ensures) (omega (arith, c.requires.few))
+    listed_refused (rw c.at.ensures at c.word_of.ensures) (omega (arith, c.requires.few))
     (ap (λ (o : Outcome (List ℕ)). handing (r.trials * 256 + r.list.length) o) cut) cut
 
 pub returns : goal.returns

@@ -7,4 +7,4 @@ use Rattle.thaksipho.proofs.choosing.thaksipho_greedy.Goals as goal
 
 pub returns-in-Err : goal.returns-in-Err
 returns-in-Err c = let e = sym (c.in-Err.ensures.value ∙ ap greedy_of c.table_of.ensures) in
-    listed_refused c.refusal_word.ensures (greedy_place _ e) (ap (list_value _) e) (ap (list_written _) e)
+    listed_refused c.word_of.ensures (greedy_place _ e) (ap (list_value _) e) (ap (list_written _) e)

@@ -10,4 +10,4 @@ pub returns-in-Err : goal.returns-in-Err
 returns-in-Err c = let settled = compiled_settled c.compile.ensures in
     let e = sym (ap (λ r. bytes_told (outcome_of r)) c.in-Err.is) ∙ settled.tells in
     worded settled
-    (c.refusal_word.ensures ∙ kept _ _ (told_fits e (compile_fits _ _ _)).1 ∙ sym (ap (λ r. word (bytes_told (outcome_of r))) c.in-Err.is))
+    (c.word_of.ensures ∙ kept _ _ (told_fits e (compile_fits _ _ _)).1 ∙ sym (ap (λ r. word (bytes_told (outcome_of r))) c.in-Err.is))

@@ -11,7 +11,7 @@ use Rattle.thaksipho.proofs.tables.hand_back.Goals as goal
 
 pub returns-then-out-lt-BYTES : goal.returns-then-out-lt-BYTES
 returns-then-out-lt-BYTES c = let t = c.args.table in
-    refusal_worded (rw c.at.ensures at c.refusal_word.ensures) (no_room_for t (omega arith) _ (omega arith)) (omega arith)
+    refusal_worded (rw c.at.ensures at c.word_of.ensures) (no_room_for t (omega arith) _ (omega arith)) (omega arith)
 
 pub returns : goal.returns
 returns c = let t = c.args.table in

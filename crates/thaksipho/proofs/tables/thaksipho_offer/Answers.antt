@@ -10,4 +10,4 @@ pub returns-in-Err : goal.returns-in-Err
 returns-in-Err c = let a = c.args in
     let e =
     sym (c.in-Err.ensures.value ∙ ap (λ (t : Table). offered t a.lender a.taker) c.table_of.ensures) in
-    refusal_worded c.refusal_word.ensures (refused_written _ e) (sound_place e (offered_sound _ a.lender a.taker))
+    refusal_worded c.word_of.ensures (refused_written _ e) (sound_place e (offered_sound _ a.lender a.taker))

@@ -6,4 +6,4 @@ use Rattle.thaksipho.proofs.tables.thaksipho_start.Goals as goal
 
 pub returns-in-Err : goal.returns-in-Err
 returns-in-Err c = let e = sym c.in-Err.ensures.value in
-    refusal_worded c.refusal_word.ensures (refused_written _ e) (sound_place e (started_sound _))
+    refusal_worded c.word_of.ensures (refused_written _ e) (sound_place e (started_sound _))
